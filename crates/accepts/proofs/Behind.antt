@@ -10,9 +10,8 @@ use Rattle.walk.specs.Call.{Free}
 use Rattle.buffers.specs.Buffers.{zeroed}
 use Rattle.calls.specs.Calls.{after_refusal}
 use Rattle.calls.specs.CallLaws.{zeros_same}
-use Rattle.accepts.specs.declared.Verdict.{Verdict}
 use Rattle.venue.specs.Accepts.{judged_of, accepts_of}
-use Rattle.accepts.specs.Accepts.{verdict, cleared, Accepted}
+use Rattle.accepts.specs.Accepts.{cleared, Accepted}
 use Rattle.accepts.specs.Calls.{High, judged_high, opened}
 
 cleared_high : (j : Result Bool) (s : List ℕ) → High j → zeroed s ≡ cleared j s
@@ -21,7 +20,7 @@ cleared_high (ok b) s h = refl
 cleared_high (refusal c) s h = rw (lt-leb c 3 (h c refl))
 
 pub behind : (sheet old view new : List ℕ) (allowance : ℕ) (s : List ℕ) → DoorOpens 0 0 (length s) allowance
-    → {r : Verdict} → r ≡ verdict (judged_of sheet old view new allowance) → {a : List ℕ} → Free scratch_size s a → {s' : List ℕ} → s' ≡ zeroed a
+    → {r : Result Bool} → r ≡ judged_of sheet old view new allowance → {a : List ℕ} → Free scratch_size s a → {s' : List ℕ} → s' ≡ zeroed a
     → Accepted (accepts_of sheet old view new allowance (length s)) r s s'
 behind sheet old view new allowance s l e {a} f z = rw (opened sheet old view new allowance s l) (record {
   answer = e;

@@ -1,5 +1,5 @@
 -- What the last arm of a match on a node tells: it is of none of the variants before.
-use Rattle.std.specs.Prelude.{◌≡◌, List, ℕ}
+use Rattle.std.specs.Prelude.{◌≡◌, Bool, List, ℕ}
 use Rattle.std.proofs.Common.{refl}
 use Rattle.node.specs.declared.Node.{Node}
 use Rattle.node.specs.declared.Node.TheVariants.{Var, False, True, Empty, Number, Front, Pair, ListCase, TruthCase, Split, Call, Add, Each, Wide}
@@ -7,7 +7,7 @@ use Rattle.node.specs.Kinds.{variables}
 use Rattle.accepts.specs.Marks.{marked_all}
 
 pub none_named :
-    (n : Node) → ((y : ℕ) → n ≡ Var y → ⊥) → ((c y z : ℕ) → n ≡ Call c y z → ⊥) → ((s c y d : ℕ) → n ≡ Each s c y d → ⊥) → (m : List ℕ)
+    (n : Node) → ((y : ℕ) → n ≡ Var y → ⊥) → ((c y z : ℕ) → n ≡ Call c y z → ⊥) → ((s c y d : ℕ) → n ≡ Each s c y d → ⊥) → (m : List Bool)
     → m ≡ marked_all m (variables n)
 unfolding marked_all variables
 none_named (Var y) var call each m = absurd (var y refl)

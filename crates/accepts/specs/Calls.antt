@@ -7,7 +7,11 @@ use native.Mathlib.Omega.{arith}
 use Rattle.std.proofs.Math.Decide.{dec_le}
 use borrow.Author.Tests.{le-leb, lt-leb}
 use Rattle.std.proofs.Math.Dec.{leb}
-use Rattle.value.specs.Result.{Result, ok, refusal, and_then, unless}
+use Rattle.value.specs.Result.{Result, ok, refusal, and_then, map_result, unless}
+use Rattle.std.specs.Prelude.{Result as Code, Ok, Err}
+use Rattle.refusal.specs.declared.Refusal.{Refusal}
+use Rattle.refusal.specs.Refusal.{number_of}
+use Rattle.value.specs.Numbered.{numbered}
 use Rattle.value.specs.Value.{Value, encode}
 use Rattle.shapes.specs.Parts.{same_bytes}
 use Rattle.value.specs.Reading.{read_plan, read_view}
@@ -25,44 +29,43 @@ use Rattle.rules.specs.Answer.{get_walk, get_bytes}
 use Rattle.rules.specs.Laws.Answers.{DoorOpens}
 use Rattle.rules.proofs.Laws.Answers.{door-scratch, door_none, door_over}
 use Rattle.rules.proofs.Laws.Refusals.{Lists, l_done, l_refused, listed_above, lists_get_bytes, lists_put_bytes}
-use Rattle.walk.specs.declared.Reply.{Reply}
-use Rattle.walk.specs.declared.Reply.TheVariants.{Done as ReplyDone, Refused as ReplyRefused}
+use Rattle.walk.specs.Reply.{Reply, Done as ReplyDone, Refused as ReplyRefused}
 use Rattle.walk.specs.Call.{Says, says_done, says_refused, Free, get_sheet-refused, get_plan-refused}
 use Rattle.walk.specs.Call.Put.{put_view-refused}
 use Rattle.calls.specs.Calls.{after_refusal}
 use Rattle.arena.specs.Door.{shut, shut_is, shut_open}
-use Rattle.accepts.specs.declared.Verdict.{Verdict}
-use Rattle.accepts.specs.declared.Verdict.TheVariants.{Yes, No, Refused}
 use Rattle.venue.specs.Accepts.{kept, or_code, result, judged_of, accepts_of}
 use Rattle.venue.proofs.Laws.{read_85}
-use Rattle.accepts.specs.Accepts.{yes_no, verdict, cleared, Accepted}
+use Rattle.accepts.specs.Accepts.{cleared, Accepted}
 use Rattle.accepts.specs.Marks.{Readied}
 use Rattle.accepts.specs.Kept.{Plans, KeptAs}
 
 -- WHAT THE READERS SAY
 
-pub ready : (sheet : List ℕ) {t : Table} → t ≡ table_of (read_sheet sheet) → t.refusal ≡ 0 → Readied sheet t
-ready sheet e z = let (sh, r) = table_reads sheet e z in record { sh = sh; reads = r }
+pub ready : (sheet : List ℕ) {t : Table} → ok t ≡ map_result table_of (read_sheet sheet) → Readied sheet t
+ready sheet e = let (sh, r) = table_reads sheet e in record { sh = sh; reads = r }
 
 -- a plan of k values, with where they stand
 pub record Values (k : ℕ) (plan : List ℕ) (sp : Spans) : Type 0 where
   pub vs : Env
   pub read : read_plan k plan ≡ ok vs
-  pub is : sp ≡ spans (ok vs)
+  pub is : sp ≡ spans vs
 
-module _ {sheet : List ℕ} {t : Table} (q : Readied sheet t) (plan : List ℕ) {sp : Spans} (e : sp ≡ spans_of t.k plan) where
-  code_is : sp.refusal ≡ (spans_of t.k plan).refusal
-  code_is = ap (λ (s : Spans). s.refusal) e
+module _ {sheet : List ℕ} {t : Table} (q : Readied sheet t) (plan : List ℕ) where
+  pub values_not : {c : ℕ} → refusal c ≡ spans_of t.k plan → read_plan q.sh.k plan ≡ refusal c
+  values_not e =
+      ap (λ (k : ℕ). read_plan k plan) (sym q.reads.k) ∙ plan_refused t.k plan (omega (arith, q.reads.k, q.reads.ranges.few_variables)) e
 
-  pub values_not : (sp.refusal ≡ 0 → ⊥) → read_plan q.sh.k plan ≡ refusal sp.refusal
-  values_not n =
-      ap (λ (k : ℕ). read_plan k plan) (sym q.reads.k)
-      ∙ plan_refused t.k plan (omega (arith, q.reads.k, q.reads.ranges.few_variables)) (λ z. n (code_is ∙ z)) ∙ ap refusal (sym code_is)
+  pub values_of : {sp : Spans} → ok sp ≡ spans_of t.k plan → Values q.sh.k plan sp
+  values_of e =
+      let p = plan_read t.k plan e in
+      record { vs = p.vs; read = ap (λ (k : ℕ). read_plan k plan) (sym q.reads.k) ∙ p.found; is = p.spans_are }
 
-  pub values_of : sp.refusal ≡ 0 → Values q.sh.k plan sp
-  values_of z =
-      let p = plan_read t.k plan (sym code_is ∙ z) in
-      record { vs = p.vs; read = ap (λ (k : ℕ). read_plan k plan) (sym q.reads.k) ∙ p.found; is = e ∙ p.places_are }
+  -- a plan that is not read
+  pub values_none : {r : Code Spans Refusal} → numbered r ≡ spans_of t.k plan → ((sp : Spans) → r ≡ Ok sp → ⊥)
+      → (c : ℕ) × (read_plan q.sh.k plan ≡ refusal c)
+  values_none {r = Ok sp} e n = absurd (n sp refl)
+  values_none {r = Err x} e n = (number_of x, values_not e)
 
 -- both plans are read
 pub both_read : {sheet : List ℕ} {t : Table} {old new : List ℕ} {before after : Spans} (q : Readied sheet t)
@@ -84,99 +87,79 @@ abbrev pub Built : Reply → List ℕ → Type 0
 Built (ReplyRefused c) a = Unit {0}
 Built (ReplyDone len n) a = stack_start + len ≤ length a
 
-unfoldable pub listed_of : Reply → (view a : List ℕ) → Verdict
-listed_of (ReplyRefused c) view a = Refused c
-listed_of (ReplyDone len n) view a = yes_no (same_bytes (take len (drop stack_start a)) view)
+unfoldable pub listed_of : Reply → (view a : List ℕ) → Result Bool
+listed_of (ReplyRefused c) view a = refusal c
+listed_of (ReplyDone len n) view a = ok (same_bytes (take len (drop stack_start a)) view)
 
-module _ {w : Reply} where
-  pub built_done : {len n : ℕ} → w ≡ ReplyDone len n → (a : List ℕ) → Built w a → stack_start + len ≤ length a
-  built_done e a h = rw e at h
-
-  pub listed_refused : {c : ℕ} → w ≡ ReplyRefused c → (view a : List ℕ) → Refused c ≡ listed_of w view a
-  unfolding listed_of
-  listed_refused e view a = rw e
-
-  pub listed_done : {len n : ℕ} → w ≡ ReplyDone len n → (view a : List ℕ)
-      → yes_no (same_bytes (take (stack_start + len - stack_start) (drop stack_start a)) view) ≡ listed_of w view a
-  unfolding listed_of
-  listed_done {len} e view a = let z : stack_start + len - stack_start ≡ len = omega arith in rw (e, z)
+pub listed_done : (len n : ℕ) (view a : List ℕ) {b : Bool} → b ≡ same_bytes (take (stack_start + len - stack_start) (drop stack_start a)) view
+    → ok b ≡ listed_of (ReplyDone len n) view a
+unfolding listed_of
+listed_done len n view a e = let z : stack_start + len - stack_start ≡ len = omega arith in rw (e, z) refl
 
 pub built : {a : List ℕ} {w : Reply} {x : Out (List ℕ)} → Says get_output a w x → scratch_size ≤ length a → Built w a
 built {a} (says_done len e l h p) long = rw e (omega arith)
 built (says_refused e) long = rw e tt
 
 -- the verdict on the list alone
-abbrev on_list : Out Value → List ℕ → Verdict
-on_list o view = verdict (and_then (result o) λ v. ok (same_bytes (encode v) view))
+abbrev on_list : Out Value → List ℕ → Result Bool
+on_list o view = and_then (result o) λ v. ok (same_bytes (encode v) view)
 
 walk_listed : (view : List ℕ) {a : List ℕ} {w : Reply} {x : Out (List ℕ)} → Says get_output a w x → (o : Out Value) → map_out encode o ≡ x
     → listed_of w view a ≡ on_list o view
-unfolding listed_of verdict and_then result map_out
+unfolding listed_of and_then result map_out
 walk_listed view (says_done {bs = bs} len e l h p) (done v n) q =
     let z : bs ≡ encode v = cc in
-    rw e (ap (λ (b : List ℕ). yes_no (same_bytes b view)) (p ∙ z))
+    rw e (ap (λ (b : List ℕ). ok (same_bytes b view)) (p ∙ z))
 walk_listed view (says_done len e l h p) (refused c n) q = let z : ◌≡◌ {A = ℕ} 0 1 = cc in absurd (omega arith)
 walk_listed view (says_refused e) (done v n) q = let z : ◌≡◌ {A = ℕ} 0 1 = cc in absurd (omega arith)
-walk_listed view (says_refused {c = c} e) (refused d n) q = let z : c ≡ d = cc in rw e (ap Refused z)
+walk_listed view (says_refused {c = c} e) (refused d n) q = let z : c ≡ d = cc in rw e (ap refusal z)
 
 -- both comparisons
-abbrev on_both : Out Value → List ℕ → Bool → Verdict
-on_both o view k = verdict (and_then (result o) λ v. ok (same_bytes (encode v) view && k))
+abbrev on_both : Out Value → List ℕ → Bool → Result Bool
+on_both o view k = and_then (result o) λ v. ok (same_bytes (encode v) view && k)
 
-both_yes : (o : Out Value) (view : List ℕ) (k : Bool) → Yes ≡ on_list o view → yes_no k ≡ on_both o view k
-unfolding verdict and_then result yes_no
-both_yes (done v n) view k e = go (same_bytes (encode v) view) e
-  where
-    go : (b : Bool) → Yes ≡ yes_no b → yes_no k ≡ yes_no (b && k)
-    go true e = refl
-    go false e = let z : ◌≡◌ {A = ℕ} 0 1 = cc in absurd (omega arith)
-both_yes (refused c n) view k e = let z : ◌≡◌ {A = ℕ} 0 1 = cc in absurd (omega arith)
+both_yes : (o : Out Value) (view : List ℕ) (k : Bool) → ok true ≡ on_list o view → ok k ≡ on_both o view k
+unfolding and_then result
+both_yes (done v n) view k e = let z : same_bytes (encode v) view ≡ true = cc in rw z refl
+both_yes (refused c n) view k e = absurd (cc)
 
-both_no : (o : Out Value) (view : List ℕ) (k : Bool) → No ≡ on_list o view → No ≡ on_both o view k
-unfolding verdict and_then result yes_no
-both_no (done v n) view k e = go (same_bytes (encode v) view) e
-  where
-    go : (b : Bool) → No ≡ yes_no b → No ≡ yes_no (b && k)
-    go true e = let z : ◌≡◌ {A = ℕ} 0 1 = cc in absurd (omega arith)
-    go false e = refl
-both_no (refused c n) view k e = let z : ◌≡◌ {A = ℕ} 0 1 = cc in absurd (omega arith)
+both_no : (o : Out Value) (view : List ℕ) (k : Bool) → ok false ≡ on_list o view → ok false ≡ on_both o view k
+unfolding and_then result
+both_no (done v n) view k e = let z : same_bytes (encode v) view ≡ false = cc in rw z refl
+both_no (refused c n) view k e = absurd (cc)
 
-both_refused : (o : Out Value) (view : List ℕ) (k : Bool) {c : ℕ} → Refused c ≡ on_list o view → Refused c ≡ on_both o view k
-unfolding verdict and_then result yes_no
-both_refused (done v n) view k {c} e = go (same_bytes (encode v) view) e
-  where
-    go : (b : Bool) → Refused c ≡ yes_no b → Refused c ≡ yes_no (b && k)
-    go true e = let z : ◌≡◌ {A = ℕ} 0 1 = cc in absurd (omega arith)
-    go false e = let z : ◌≡◌ {A = ℕ} 0 1 = cc in absurd (omega arith)
+both_refused : (o : Out Value) (view : List ℕ) (k : Bool) {c : ℕ} → refusal c ≡ on_list o view → refusal c ≡ on_both o view k
+unfolding and_then result
+both_refused (done v n) view k e = absurd (cc)
 both_refused (refused d n) view k e = e
 
 -- THE VERDICT BEHIND THE DOOR, return by return
 
 module _ (sheet old view new : List ℕ) (allowance : ℕ) where
-  abbrev SaysSo : Verdict → Type 0
-  SaysSo r = r ≡ verdict (judged_of sheet old view new allowance)
+  abbrev SaysSo : Result Bool → Type 0
+  SaysSo r = r ≡ judged_of sheet old view new allowance
 
-  pub no_sheet : {c : ℕ} → read_sheet sheet ≡ refusal c → SaysSo (Refused c)
-  unfolding judged_of verdict and_then
+  pub no_sheet : {c : ℕ} → read_sheet sheet ≡ refusal c → SaysSo (refusal c)
+  unfolding judged_of and_then
   no_sheet e = sym (rw e)
 
   module _ {sh : Sheet} (es : read_sheet sheet ≡ ok sh) where
-    pub no_old : {c : ℕ} → read_plan sh.k old ≡ refusal c → SaysSo (Refused c)
-    unfolding judged_of verdict and_then
+    pub no_old : {c : ℕ} → read_plan sh.k old ≡ refusal c → SaysSo (refusal c)
+    unfolding judged_of and_then
     no_old e = sym (rw (es, e))
 
     module _ {μ : Env} (eo : read_plan sh.k old ≡ ok μ) where
-      pub no_view : {c : ℕ} → read_view view ≡ refusal c → SaysSo (Refused c)
-      unfolding judged_of verdict and_then
+      pub no_view : {c : ℕ} → read_view view ≡ refusal c → SaysSo (refusal c)
+      unfolding judged_of and_then
       no_view e = sym (rw (es, eo, e))
 
       module _ {vs : List Value} (ev : read_view view ≡ ok vs) where
-        pub no_new : {c : ℕ} → read_plan sh.k new ≡ refusal c → SaysSo (Refused 85)
-        unfolding judged_of verdict and_then or_code
+        pub no_new : {c : ℕ} → read_plan sh.k new ≡ refusal c → SaysSo (refusal 85)
+        unfolding judged_of and_then or_code
         no_new e = sym (rw (es, eo, ev, e))
 
 -- all is read, the new plan is read out, and `l` says whether that is the list
-pub record Beside (sheet old view new : List ℕ) (allowance : ℕ) (a : List ℕ) (w : Reply) (l : Verdict) : Type 0 where
+pub record Beside (sheet old view new : List ℕ) (allowance : ℕ) (a : List ℕ) (w : Reply) (l : Result Bool) : Type 0 where
   pub sh : Sheet
   pub sheet_read : read_sheet sheet ≡ ok sh
   pub μ : Env
@@ -188,11 +171,11 @@ pub record Beside (sheet old view new : List ℕ) (allowance : ℕ) (a : List �
   pub says : Says get_output a w (get_bytes sheet new allowance)
   pub told : l ≡ listed_of w view a
 
-module _ {sheet old view new : List ℕ} {allowance : ℕ} {a : List ℕ} {w : Reply} {l : Verdict} (b : Beside sheet old view new allowance a w l) where
+module _ {sheet old view new : List ℕ} {allowance : ℕ} {a : List ℕ} {w : Reply} {l : Result Bool} (b : Beside sheet old view new allowance a w l) where
   abbrev got : Out Value
   got = get_walk allowance b.sh b.ν
 
-  all_read : verdict (judged_of sheet old view new allowance) ≡ on_both got view (kept b.sh b.μ b.ν)
+  all_read : judged_of sheet old view new allowance ≡ on_both got view (kept b.sh b.μ b.ν)
   unfolding judged_of and_then or_code
   all_read = rw (b.sheet_read, b.old_read, b.view_read, b.new_read)
 
@@ -203,13 +186,13 @@ module _ {sheet old view new : List ℕ} {allowance : ℕ} {a : List ℕ} {w : R
   list_is : l ≡ on_list got view
   list_is = b.told ∙ walk_listed view b.says got (sym bytes_are)
 
-  pub on_yes : l ≡ Yes → {k : Bool} → KeptAs sheet old new k → {r : Verdict} → r ≡ yes_no k → r ≡ verdict (judged_of sheet old view new allowance)
-  on_yes e q z = z ∙ ap yes_no (q b.sh b.sheet_read b.μ b.ν b.old_read b.new_read) ∙ both_yes got view _ (sym e ∙ list_is) ∙ sym all_read
+  pub on_yes : l ≡ ok true → {k : Bool} → KeptAs sheet old new k → ok k ≡ judged_of sheet old view new allowance
+  on_yes e q = ap ok (q b.sh b.sheet_read b.μ b.ν b.old_read b.new_read) ∙ both_yes got view _ (sym e ∙ list_is) ∙ sym all_read
 
-  pub on_no : l ≡ No → No ≡ verdict (judged_of sheet old view new allowance)
+  pub on_no : l ≡ ok false → ok false ≡ judged_of sheet old view new allowance
   on_no e = both_no got view _ (sym e ∙ list_is) ∙ sym all_read
 
-  pub on_refused : {c : ℕ} → l ≡ Refused c → Refused c ≡ verdict (judged_of sheet old view new allowance)
+  pub on_refused : {c : ℕ} → l ≡ refusal c → refusal c ≡ judged_of sheet old view new allowance
   on_refused e = both_refused got view _ (sym e ∙ list_is) ∙ sym all_read
 
 pub nothing_moved : (s : List ℕ) → Free scratch_size s s
@@ -222,14 +205,14 @@ module _ (sheet old view new : List ℕ) (allowance : ℕ) (s : List ℕ) where
   Answer = accepts_of sheet old view new allowance (length s)
 
   -- refused at the door
-  pub shut_told : {c : ℕ} → c ≡ shut 0 0 (length s) allowance → (c ≡ 0 → ⊥) → Accepted Answer (Refused c) s s
-  unfolding accepts_of unless verdict cleared after_refusal
+  pub shut_told : {c : ℕ} → c ≡ shut 0 0 (length s) allowance → (c ≡ 0 → ⊥) → Accepted Answer (refusal c) s s
+  unfolding accepts_of unless cleared after_refusal
   shut_told {c} f n = go (dec_le scratch_size (length s)) (dec_le 1 allowance) (dec_le allowance allowance_limit)
     where
-      by : (k : ℕ) → c ≡ k → leb k 3 ≡ true → Answer ≡ refusal k → Accepted Answer (Refused c) s s
-      by k q l w = rw w (record { answer = ap Refused q; scratch = rw l refl })
+      by : (k : ℕ) → c ≡ k → leb k 3 ≡ true → Answer ≡ refusal k → Accepted Answer (refusal c) s s
+      by k q l w = rw w (record { answer = ap refusal q; scratch = rw l refl })
 
-      go : Dec (scratch_size ≤ length s) → Dec (1 ≤ allowance) → Dec (allowance ≤ allowance_limit) → Accepted Answer (Refused c) s s
+      go : Dec (scratch_size ≤ length s) → Dec (1 ≤ allowance) → Dec (allowance ≤ allowance_limit) → Accepted Answer (refusal c) s s
       go (no a) b d = by 2 (f ∙ sym (shut_is _ _ _ _ (door-scratch _ _ _ _ _ (omega arith) (omega arith)))) refl (rw (lt-leb scratch_size (length s)
           (omega arith)))
       go (yes a) (no b) d =

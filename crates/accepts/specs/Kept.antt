@@ -1,6 +1,7 @@
 -- The comparison of two plans, as far as it has come.
 use Rattle.std.specs.Prelude.{◌≡◌, Bool, true, false, ◌&&◌, ◌||◌, List, length, get_or, take, drop}
-use Rattle.std.proofs.Common.{sym, ◌∙◌, add-one, lt-ltb, le-ltb}
+use Rattle.std.proofs.Common.{refl, sym, ◌∙◌, add-one}
+use Rattle.std.proofs.Math.Bool.{or-true}
 use Rattle.std.proofs.Math.Path.{ap, ap₂}
 use Prim.Native.Nat.{ℕ, suc, ◌+◌, ◌-◌, ◌≤◌, ◌<◌}
 use native.Mathlib.Omega.{arith}
@@ -29,7 +30,7 @@ pub record Within (plan : List ℕ) (sp : Spans) (x : ℕ) : Type 0 where
   pub few : x < 16
   pub inside : get_or sp.starts x 0 + get_or sp.lens x 0 ≤ length plan
 
-module _ (k : ℕ) (plan : List ℕ) {sp : Spans} {vs : List Value} (read : read_plan k plan ≡ ok vs) (is : sp ≡ spans (ok vs)) (x : ℕ) (h : x < k) where
+module _ (k : ℕ) (plan : List ℕ) {sp : Spans} {vs : List Value} (read : read_plan k plan ≡ ok vs) (is : sp ≡ spans vs) (x : ℕ) (h : x < k) where
   there : x < length vs
   there = omega (arith, (read_values_sound 20 k plan read).count)
 
@@ -50,10 +51,10 @@ pub record Plans (sheet : List ℕ) (t : Table) (old : List ℕ) (before : Spans
   pub reads : Reads sheet t sh
   pub μ : Env
   pub old_read : read_plan sh.k old ≡ ok μ
-  pub before_is : before ≡ spans (ok μ)
+  pub before_is : before ≡ spans μ
   pub ν : Env
   pub new_read : read_plan sh.k new ≡ ok ν
-  pub after_is : after ≡ spans (ok ν)
+  pub after_is : after ≡ spans ν
 
 abbrev pub KeptAs : (sheet old new : List ℕ) → Bool → Type 0
 KeptAs sheet old new r = (sh : Sheet) → read_sheet sheet ≡ ok sh → (μ ν : Env) → read_plan sh.k old ≡ ok μ → read_plan sh.k new ≡ ok ν → r ≡ kept sh μ ν
@@ -100,6 +101,9 @@ module _ {sheet : List ℕ} {t : Table} {old : List ℕ} {before : Spans} {new :
           let k = p.sh.k in
           (within k old p.old_read p.before_is x here few_variables, within k new p.new_read p.after_is x here few_variables)
 
+      names_as : (m : List Bool) → Marks sheet m → {b : Bool} → is_marked m x ≡ b → names x p.sh.nodes ≡ b
+      names_as m n f = sym (n p.sh p.reads.sheet x (omega (arith, few_variables, here))) ∙ f
+
       module _ {same : Bool} (s : same ≡ same_bytes (span_of old before x) (span_of new after x)) where
         next_kept : kept p.sh p.μ p.ν ≡ (same || names x p.sh.nodes) && spared_from p.sh p.μ p.ν (x + 1) (t.k - (x + 1))
         unfolding spared_from spared
@@ -112,12 +116,12 @@ module _ {sheet : List ℕ} {t : Table} {old : List ℕ} {before : Spans} {new :
         pub same_kept : same ≡ true → Keeping sheet t old before new after (x + 1)
         same_kept e = record { plans = p; few = omega arith; rest = rw e at next_kept }
 
-        module _ (e : same ≡ false) (m : List ℕ) (n : Marks sheet m) where
-          marked_as : {b : Bool} → is_marked m x ≡ b → names x p.sh.nodes ≡ b
-          marked_as f = sym (n p.sh p.reads.sheet x (omega (arith, few_variables, here))) ∙ f
+        pub not_kept : (m : List Bool) → Marks sheet m → is_marked m x ≡ false → same ≡ false → KeptAs sheet old new false
+        not_kept m n f e = ends_kept (rw (e, names_as m n f) at next_kept)
 
-          pub named_kept : (get_or m x 0 ≡ 0 → ⊥) → Keeping sheet t old before new after (x + 1)
-          named_kept f = record { plans = p; few = omega arith; rest = rw (e, marked_as (lt-ltb 0 (get_or m x 0) (omega arith))) at next_kept }
-
-          pub not_kept : get_or m x 0 ≡ 0 → KeptAs sheet old new false
-          not_kept f = ends_kept (rw (e, marked_as (le-ltb 0 (get_or m x 0) (omega arith))) at next_kept)
+      pub named_kept : (m : List Bool) → Marks sheet m → is_marked m x ≡ true → Keeping sheet t old before new after (x + 1)
+      named_kept m n f = record {
+        plans = p;
+        few = omega arith;
+        rest = rw (names_as m n f, or-true) at (next_kept {same = same_bytes (span_of old before x) (span_of new after x)} refl);
+      }

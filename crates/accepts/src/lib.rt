@@ -8,39 +8,31 @@ ghost use Rattle.rules.specs.Laws.Answers.{DoorOpens};
 ghost use Rattle.walk.specs.Call.{Free};
 ghost use Rattle.rules.specs.Numbers.{scratch_size};
 ghost use Rattle.venue.specs.Accepts.{judged_of, accepts_of};
-ghost use Rattle.accepts.specs.Accepts.{yes_no, verdict, Accepted};
+ghost use Rattle.value.specs.Numbered.{numbered};
+ghost use Rattle.calls.specs.Reply.{told};
+ghost use Rattle.accepts.specs.Accepts.{Accepted};
 ghost use Rattle.accepts.specs.Calls.{Built, listed_of};
 ghost use Rattle.accepts.specs.Kept.{Within, span_of, Plans, KeptAs};
 ghost use Rattle.accepts.specs.Marks.{Readied, marked_one, marked_all, Marks};
 
 use node::Node;
+use refusal::Refusal;
 use sheet::Table;
 use value::Spans;
-use walk::Reply;
-
-/// Whether a new plan stands: it reads out to the list, and keeps what no record names; or a refusal's number.
-#[derive(Clone, Copy, Debug, PartialEq, Eq)]
-pub enum Verdict {
-    Yes,
-    No,
-    Refused(u8),
-}
-
-// The refusal of a new plan, whatever is wrong with it.
-const NEW_PLAN: u8 = 85;
+use walk::{Done, Reply};
 
 // Marks variable x, where it is one of a plan's.
-fn mark(marks: &mut [u8; 16], x: usize)
+#[tactic(auto, using(crate::specs::Marks::one_marked, crate::specs::Marks::none_marked))]
+fn mark(marks: &mut [bool; 16], x: usize)
     ensures { marks.new ≡ marked_one marks.old x }
 {
-    if 16 <= x {
-        return;
+    if x < 16 {
+        marks[x] = true;
     }
-    marks[x] = 1;
 }
 
 // Marks the numbers that stand as variables in a node's record.
-fn mark_node(marks: &mut [u8; 16], node: Node)
+fn mark_node(marks: &mut [bool; 16], node: Node)
     ensures { marks.new ≡ marked_all marks.old (variables node) }
 {
     match node {
@@ -55,16 +47,13 @@ fn mark_node(marks: &mut [u8; 16], node: Node)
 }
 
 // A mark for each variable that a record of the sheet names: in one pass over the records.
-fn named(sheet: &[u8], table: Table) -> [u8; 16]
+fn named(sheet: &[u8], table: Table) -> [bool; 16]
     requires { Readied sheet.now table }
     ensures { Marks sheet.now result }
 {
-    let mut marks = [0u8; 16];
-    let mut i = 0;
-    while i < table.nodes {
-        let at = table.starts[i] as usize;
-        mark_node(&mut marks, node::node_at(sheet, at));
-        i += 1;
+    let mut marks = [false; 16];
+    for &at in &table.starts[..table.nodes] {
+        mark_node(&mut marks, node::node_at(sheet, usize::from(at)));
     }
     marks
 }
@@ -74,8 +63,8 @@ fn part(plan: &[u8], spans: Spans, x: usize) -> &[u8]
     requires { Within plan.now spans x }
     ensures { result.now ≡ span_of plan.now spans x }
 {
-    let start = spans.starts[x] as usize;
-    let end = start + spans.lens[x] as usize;
+    let start = usize::from(spans.starts[x]);
+    let end = start + usize::from(spans.lens[x]);
     &plan[start..end]
 }
 
@@ -93,38 +82,23 @@ fn is_kept(sheet: &[u8], table: Table, old: &[u8], before: Spans, new: &[u8], af
     ensures { KeptAs sheet.now old.now new.now result }
 {
     let marks = named(sheet, table);
-    let mut x = 0;
-    while x < table.k {
-        if !is_same(old, before, new, after, x) {
-            if marks[x] == 0 {
-                return false;
-            }
+    for x in 0..table.k {
+        if !marks[x] && !is_same(old, before, new, after, x) {
+            return false;
         }
-        x += 1;
     }
     true
 }
 
-// Yes or no.
-fn yes_no(yes: bool) -> Verdict
-    ensures { result ≡ yes_no yes }
-{
-    if yes { Verdict::Yes } else { Verdict::No }
-}
-
 // Whether what a walk built is the list; or the walk's refusal.
-fn listed(walked: Reply, view: &[u8], scratch: &[u8]) -> Verdict
-    requires { Built walked scratch.now }
-    ensures { result ≡ listed_of walked view.now scratch.now }
+fn listed(walked: Reply, view: &[u8], scratch: &[u8]) -> Result<bool, Refusal>
+    requires { Built (told walked) scratch.now }
+    ensures { numbered result ≡ listed_of (told walked) view.now scratch.now }
 {
-    match walked {
-        Reply::Refused(code) => Verdict::Refused(code),
-        Reply::Done { len, steps: _ } => {
-            let start = rules::STACK;
-            let end = start + len;
-            yes_no(shapes::same(&scratch[start..end], view))
-        }
-    }
+    let Done { len, .. } = walked?;
+    let start = rules::STACK;
+    let end = start + len;
+    Ok(shapes::same(&scratch[start..end], view))
 }
 
 // The verdict behind the door: each reader in turn, the new plan read out, and then both comparisons.
@@ -135,39 +109,28 @@ fn judged(
     new: &[u8],
     allowance: usize,
     scratch: &mut [u8],
-) -> Verdict
+) -> Result<bool, Refusal>
     requires { DoorOpens 0 0 (length scratch.old) allowance }
-    ensures value { result ≡ verdict (judged_of sheet.now old.now view.now new.now allowance) }
+    ensures value { numbered result ≡ judged_of sheet.now old.now view.now new.now allowance }
     ensures free { Free scratch_size scratch.old scratch.new }
 {
-    let table = sheet::read_sheet(sheet);
-    if table.refusal != 0 {
-        return Verdict::Refused(table.refusal);
-    }
-    let before = value::read_plan(table.k, old);
-    if before.refusal != 0 {
-        return Verdict::Refused(before.refusal);
-    }
-    let code = value::read_view(view);
-    if code != 0 {
-        return Verdict::Refused(code);
-    }
-    let after = value::read_plan(table.k, new);
-    if after.refusal != 0 {
-        return Verdict::Refused(NEW_PLAN);
-    }
+    let table = sheet::read_sheet(sheet)?;
+    let before = value::read_plan(table.k, old)?;
+    value::read_view(view)?;
+    let Ok(after) = value::read_plan(table.k, new) else {
+        return Err(Refusal::NewPlan);
+    };
     let got = walk::get(sheet, new, allowance, scratch);
-    let walked = got.walked;
-    match listed(walked, view, scratch) {
-        Verdict::Yes => yes_no(is_kept(sheet, table, old, before, new, after)),
-        Verdict::No => Verdict::No,
-        Verdict::Refused(code) => Verdict::Refused(code),
+    let same_list = listed(got.walked, view, scratch)?;
+    if !same_list {
+        return Ok(false);
     }
+    Ok(is_kept(sheet, table, old, before, new, after))
 }
 
 /// Whether a new plan that a house made stands for the old plan and the list: it reads out to that list under that allowance, and every variable that
-/// no record of the sheet names has the same bytes in both plans. Scratch takes 65,536 bytes. Refusals in order: 2, 3, the sheet's, the old plan's,
-/// the list's, 85 the new plan is not k values, and those of reading it out.
+/// no record of the sheet names has the same bytes in both plans. Scratch takes 65,536 bytes. Refusals in order: `ScratchSmall`, `AllowanceRange`, the
+/// sheet's, the old plan's, the list's, `NewPlan` where the new plan is not k values, and those of reading it out.
 pub fn accepts(
     sheet: &[u8],
     old: &[u8],
@@ -175,15 +138,12 @@ pub fn accepts(
     new: &[u8],
     allowance: u32,
     scratch: &mut [u8],
-) -> Verdict
+) -> Result<bool, Refusal>
     ensures { Accepted (accepts_of sheet.now old.now view.now new.now allowance
-        (length scratch.old)) result scratch.old scratch.new }
+        (length scratch.old)) (numbered result) scratch.old scratch.new }
 {
     let steps_allowed = allowance as usize;
-    let refusal = calls::side_door(scratch.len(), steps_allowed);
-    if refusal != 0 {
-        return Verdict::Refused(refusal);
-    }
+    calls::side_door(scratch.len(), steps_allowed)?;
     let verdict = judged(sheet, old, view, new, steps_allowed, scratch);
     buffers::clear(scratch);
     verdict

@@ -3,13 +3,13 @@
 use Rattle.std.specs.Prelude.{◌≡◌, refl, Bool, true, false, cond, ◌||◌, List, ℕ, ◌<◌, length, get_or}
 use Rattle.std.proofs.Common.{sym, ap, ◌∙◌, arith}
 use Rattle.std.proofs.Math.Decide.{dec_lt}
-use Rattle.value.specs.Result.{ok}
+use Rattle.value.specs.Result.{Result, ok}
 use Rattle.value.specs.Value.{Value, vfalse, encode}
 use Rattle.value.specs.Reading.{read_plan}
 use Rattle.value.proofs.Laws.{read_values_sound}
 use Rattle.sheet.specs.Sheet.{Sheet, read_sheet}
-use Rattle.starts.specs.declared.Found.{Found}
-use Rattle.starts.specs.Starts.{load_of, find_of, part_of}
+use Rattle.starts.specs.declared.Place.{Place}
+use Rattle.starts.specs.Starts.{load_of, starts_in, find_of, part_of}
 use Rattle.starts.proofs.StartsLaws.{loaded_part, loaded_none}
 use Rattle.rules.specs.Answer.{success, put_answer}
 use Rattle.rules.proofs.Laws.Answers.{put_shows}
@@ -19,7 +19,7 @@ use Rattle.rules.proofs.Bits.Laws.{clear_kept}
 
 -- the bytes of variable i of a plan, by the starts that loading the plan gives; none where it has no such variable
 abbrev pub bytes_at : (sheet plan : List ℕ) (i : ℕ) → List ℕ
-bytes_at sheet plan i = part_of (find_of (load_of sheet plan).starts (length plan) i) plan
+bytes_at sheet plan i = part_of (find_of (starts_in (load_of sheet plan)) (length plan) i) plan
 
 -- what a screen shows for variable i: drawn anew where the bit is set, and else as it was
 unfoldable pub redrawn : (bits : ℕ) (old new : ℕ → List ℕ) → ℕ → List ℕ
@@ -44,8 +44,8 @@ same_bytes_lem sheet plan new i {sh} {μ} {ν} s p q e = go (dec_lt i sh.k)
     go : Dec (i < sh.k) → bytes_at sheet new i ≡ bytes_at sheet plan i
     go (yes h) = loaded_part sheet new s q i (omega (arith, now)) ∙ ap encode e ∙ sym (loaded_part sheet plan s p i (omega (arith, old)))
     go (no h) =
-        ap (λ (f : Found). part_of f new) (loaded_none sheet new s q i (omega (arith, now)))
-        ∙ sym (ap (λ (f : Found). part_of f plan) (loaded_none sheet plan s p i (omega (arith, old))))
+        ap (λ (f : Result Place). part_of f new) (loaded_none sheet new s q i (omega (arith, now)))
+        ∙ sym (ap (λ (f : Result Place). part_of f plan) (loaded_none sheet plan s p i (omega (arith, old))))
 
 -- what is drawn where a bit is set, and shown as it was elsewhere, is right where a clear bit leaves it be
 drawn : (bits : ℕ) (old new : ℕ → List ℕ) (i : ℕ) → (bit i bits ≡ false → new i ≡ old i) → redrawn bits old new i ≡ new i

@@ -7,6 +7,9 @@ use borrow.Author.Tests.{lt-leb}
 use Rattle.std.proofs.Math.Dec.{leb}
 use Rattle.std.proofs.Math.ListN.{drop}
 use Rattle.std.proofs.Math.Seq.{paste}
+use Rattle.std.specs.Prelude.{Result as Code, Ok, Err}
+use Rattle.refusal.specs.declared.Refusal.{Refusal}
+use Rattle.value.specs.Numbered.{numbered}
 use Rattle.rules.specs.Outcome.{Out, done, refused}
 use Rattle.rules.specs.Answer.{Answer, refusal, success, answer, door}
 use Rattle.rules.specs.Laws.Answers.{DoorOpens}
@@ -14,7 +17,7 @@ use Rattle.rules.proofs.Laws.Answers.{door_open}
 use Rattle.rules.proofs.Laws.Refusals.{Lists, l_refused, listed_above}
 use Rattle.calls.specs.Reply.{Reply, Done, Refused}
 use Rattle.buffers.specs.Buffers.{zeros, zeroed}
-use Rattle.arena.specs.Door.{shut, Door, opens, shuts, door_cases}
+use Rattle.arena.specs.Door.{shut, opening, opens_lent, Door, opens, shuts, door_cases}
 use Rattle.calls.specs.Calls.{reply, written, cleared, after_refusal, Answered}
 
 -- scratch that was only changed within its first n bytes is cleared to the same bytes
@@ -23,6 +26,12 @@ unfolding zeros
 zeros_same n s a e = rw e
 
 -- THE DOOR
+
+-- where the code's answer is no refusal, all is lent
+pub lent_else : {need output scratch allowance : ℕ} {r : Code Unit Refusal} → numbered r ≡ opening need output scratch allowance
+    → ((e : Refusal) → r ≡ Err e → ⊥) → DoorOpens need output scratch allowance
+lent_else {r = Ok x} e n = opens_lent e
+lent_else {r = Err x} e n = absurd (n x refl)
 
 module _ (need : ℕ) (o s : List ℕ) (allowance : ℕ) (w : Out (List ℕ)) where
   abbrev Call : Answer

@@ -3,9 +3,8 @@ use Rattle.std.specs.Prelude.{◌≡◌, Bool, true, false, List, ◌++◌, ℕ,
 use Rattle.rules.specs.Answer.{Answer, refusal, success}
 use Rattle.rules.specs.Bits.{put_written}
 use Rattle.starts.specs.declared.Starts.{Starts}
-use Rattle.starts.specs.Starts.{no_starts, load_of}
-use Rattle.calls.specs.declared.PutReply.{PutReply}
-use Rattle.calls.specs.Reply.{Reply, Done, Refused}
+use Rattle.starts.specs.Starts.{no_starts, load_of, starts_in}
+use Rattle.calls.specs.Reply.{Reply, Done, Refused, PutReply}
 use Rattle.buffers.specs.Buffers.{zeroed}
 
 -- a refusal is its number; a success is how many bytes and how many steps
@@ -38,7 +37,7 @@ pub record Answered (a : Answer) (r : Reply) (o o' s s' : List ℕ) : Type 0 whe
 -- the starts of the new plan's values, as loading the new plan gives them; no start with a refusal
 unfoldable pub new_starts : (sheet : List ℕ) → Answer → Starts
 new_starts sheet (refusal c) = no_starts
-new_starts sheet (success new n) = (load_of sheet new).starts
+new_starts sheet (success new n) = starts_in (load_of sheet new)
 
 -- which plan variables took a view; no bit with a refusal
 unfoldable pub new_written : (sheet plan view : List ℕ) (allowance : ℕ) → Answer → ℕ

@@ -1,3 +1,19 @@
--- What a call answers is what a walk gives: one type, `Reply` of the walk.
-pub use Rattle.walk.specs.declared.Reply.{Reply}
-pub use Rattle.walk.specs.declared.Reply.TheVariants.{Done, Refused}
+-- What a call answers, in numbers: what a walk gives, `Reply` of the walk; and what a put gives beside it.
+pub use Rattle.walk.specs.Reply.{Reply, Done, Refused, told}
+use Rattle.std.specs.Prelude.{ℕ, Result as Answer, Ok, Err}
+use Rattle.refusal.specs.declared.Refusal.{Refusal}
+use Rattle.refusal.specs.Refusal.{number_of}
+use Rattle.starts.specs.declared.Starts.{Starts}
+use Rattle.starts.specs.Starts.{no_starts}
+use Rattle.calls.specs.declared.PutDone.{PutDone}
+
+-- the reply, where the values of the new plan start, and which plan variables took a view
+pub record PutReply : Type 0 where
+  pub reply : Reply
+  pub starts : Starts
+  pub written : ℕ
+
+-- with a refusal there is no start, and no bit is set
+abbrev pub put_told : Answer PutDone Refusal → PutReply
+put_told (Ok p) = record { reply = Done p.done.len p.done.steps; starts = p.starts; written = p.written }
+put_told (Err e) = record { reply = Refused (number_of e); starts = no_starts; written = 0 }

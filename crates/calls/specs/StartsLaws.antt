@@ -4,17 +4,16 @@ use Rattle.std.specs.Prelude.{◌≡◌, List, ℕ, ◌≤◌, ◌<◌, length, 
 use Rattle.std.proofs.Common.{sym, ◌∙◌, arith}
 use Rattle.std.proofs.Math.Path.{ap}
 use Rattle.value.specs.Result.{ok}
+use Rattle.value.specs.Result
 use Rattle.value.specs.Value.{Value, vfalse, encode}
 use Rattle.value.specs.Reading.{read_plan}
 use Rattle.sheet.specs.Sheet.{Sheet, read_sheet}
-use Rattle.starts.specs.declared.Found.TheVariants.{Refused}
-use Rattle.starts.specs.declared.Loaded.{Loaded}
 use Rattle.starts.specs.declared.Starts.{Starts}
-use Rattle.starts.specs.Starts.{no_starts, load_of, find_of, part_of}
+use Rattle.starts.specs.Starts.{no_starts, load_of, starts_in, find_of, part_of}
 use Rattle.starts.proofs.StartsLaws.{load_few, load_gives, loaded_part, loaded_none}
 use Rattle.rules.specs.Answer.{Answer, refusal, success, put_answer}
 use Rattle.rules.proofs.Laws.Trips.{new_plan_lem}
-use Rattle.calls.specs.declared.PutReply.{PutReply}
+use Rattle.calls.specs.Reply.{PutReply}
 use Rattle.calls.specs.Calls.{new_starts, PutAnswered}
 
 -- a put gives at most 16 starts
@@ -33,7 +32,7 @@ module _ (sheet plan view : List ℕ) (allowance output scratch : ℕ) {new : Li
   abbrev given : Starts
   given = new_starts sheet (put_answer sheet plan view allowance output scratch)
 
-  given_is : given ≡ (load_of sheet new).starts
+  given_is : given ≡ starts_in (load_of sheet new)
   unfolding new_starts
   given_is = ap (new_starts sheet) e
 
@@ -42,16 +41,17 @@ module _ (sheet plan view : List ℕ) (allowance output scratch : ℕ) {new : Li
   new_read = let (sh, vs, s, b, k, r, p) = new_plan_lem sheet plan view allowance output scratch new n e in (sh, vs, s, p)
 
   -- loading the new plan succeeds and gives the put's starts
-  pub put_loads : load_of sheet new ≡ record { refusal = 0; starts = given }
+  pub put_loads : load_of sheet new ≡ ok given
+  unfolding starts_in
   put_loads =
       let (sh, vs, s, p) = new_read in
       let l = load_gives sheet new s p in
-      l ∙ ap (λ (x : Starts). record { refusal = 0; starts = x }) (sym (given_is ∙ ap (λ (x : Loaded). x.starts) l))
+      l ∙ ap (λ (x : Starts). ok x) (sym (given_is ∙ ap starts_in l))
 
   module _ {sh : Sheet} {vs : List Value} (s : read_sheet sheet ≡ ok sh) (p : read_plan sh.k new ≡ ok vs) (i : ℕ) where
     -- variable i is the i-th value, and there is no other
     pub put_part : i < length vs → part_of (find_of given (length new) i) new ≡ encode (get_or vs i vfalse)
     put_part h = ap (λ (x : Starts). part_of (find_of x (length new) i) new) given_is ∙ loaded_part sheet new s p i h
 
-    pub put_none : length vs ≤ i → find_of given (length new) i ≡ Refused 23
+    pub put_none : length vs ≤ i → find_of given (length new) i ≡ Result.refusal 23
     put_none h = ap (λ (x : Starts). find_of x (length new) i) given_is ∙ loaded_none sheet new s p i h

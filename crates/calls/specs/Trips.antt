@@ -4,8 +4,7 @@ use Rattle.std.proofs.Common.{arith, take_at}
 use Rattle.rules.specs.Numbers.{allowance_limit, factor, scratch_size, get_output, put_output}
 use Rattle.rules.specs.Answer.{Answer, refusal, success, get_answer, put_answer}
 use Rattle.rules.proofs.Laws.Trips.{consistency, acceptability}
-use Rattle.calls.specs.declared.PutReply.{PutReply}
-use Rattle.calls.specs.Reply.{Reply, Done}
+use Rattle.calls.specs.Reply.{Reply, Done, PutReply}
 use Rattle.calls.specs.Calls.{reply, written, Answered, new_starts, new_written, PutAnswered}
 
 -- a list that was taken back stands: the get of the new plan, the bytes at the front of the output, under the same sheet and allowance

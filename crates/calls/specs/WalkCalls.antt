@@ -10,7 +10,7 @@ use Rattle.rules.specs.Answer.{Answer, refusal, success, answer, door, get_bytes
 use Rattle.rules.specs.Laws.Answers.{DoorOpens}
 use Rattle.rules.proofs.Laws.Answers.{door_open}
 use Rattle.rules.proofs.Laws.Refusals.{Lists, lists_get_bytes, lists_put_bytes}
-use Rattle.starts.specs.Starts.{no_starts, load_of}
+use Rattle.starts.specs.Starts.{no_starts, load_of, starts_in}
 use Rattle.walk.specs.Call.{Says, says_done, says_refused, WalkCall}
 use Rattle.calls.specs.Reply.{Reply, Done, Refused}
 use Rattle.buffers.specs.Buffers.{zeroed}
@@ -118,7 +118,7 @@ module _ {need : ℕ} {w : Out (List ℕ)} {allowance : ℕ} {o s : List ℕ} {x
         go (Refused c) h = rw (h, b.is, door_open {o = w} l, (said_refused says h).1)
         go (Done len n) h =
             let d = said_done says h in
-            rw (h, b.is, door_open {o = w} l, d.is) (ap (λ (new : List ℕ). (load_of sheet new).starts) d.stands)
+            rw (h, b.is, door_open {o = w} l, d.is) (ap (λ (new : List ℕ). starts_in (load_of sheet new)) d.stands)
 
     -- and so are the bits
     pub call_written : (sheet plan view : List ℕ) (k : ℕ) → walk_new_written sheet plan view k r ≡ new_written sheet plan view k x

@@ -24,10 +24,10 @@ pub fn line(
     }
     let letter = inputs::byte_at(input, 0);
     match letter {
-        0x53 => put_line(input, false, out, scratch, text),
-        0x57 => put_line(input, true, out, scratch, text),
-        0x59 => why_line(input, scratch, text),
-        0x43 => check_line(input, scratch, text),
+        b'S' => put_line(input, false, out, scratch, text),
+        b'W' => put_line(input, true, out, scratch, text),
+        b'Y' => why_line(input, scratch, text),
+        b'C' => check_line(input, scratch, text),
         _ => letters::line(input, text),
     }
 }

@@ -41,23 +41,21 @@ fn value_line(bytes: &[u8], text: &mut [u8]) -> usize
 fn span(text: &mut [u8], at: usize, start: u16, len: u16) -> usize
     ensures { result ≤ length text.new }
 {
-    let end = labelled(text, at, b" ", start as usize);
-    labelled(text, end, b"+", len as usize)
+    let end = labelled(text, at, b" ", usize::from(start));
+    labelled(text, end, b"+", usize::from(len))
 }
 
 fn plan_line(first: u8, plan: &[u8], text: &mut [u8]) -> usize
     ensures { result ≤ length text.new }
 {
-    let k = first as usize;
+    let k = usize::from(first);
     let spans = value::read_plan(k, plan);
     if spans.refusal != 0 {
-        return report::refusal(text, 0, spans.refusal as usize);
+        return report::refusal(text, 0, usize::from(spans.refusal));
     }
     let mut end = report::bytes(text, 0, b"plan");
-    for i in 0..16 {
-        if i < k {
-            end = span(text, end, spans.starts[i], spans.lens[i]);
-        }
+    for i in 0..k.min(16) {
+        end = span(text, end, spans.starts[i], spans.lens[i]);
     }
     report::byte(text, end, b'\n')
 }
@@ -67,7 +65,7 @@ fn view_line(view: &[u8], text: &mut [u8]) -> usize
 {
     let refusal = value::read_view(view);
     if refusal != 0 {
-        return report::refusal(text, 0, refusal as usize);
+        return report::refusal(text, 0, usize::from(refusal));
     }
     report::bytes(text, 0, b"view\n")
 }
@@ -77,7 +75,7 @@ fn sheet_line(bytes: &[u8], text: &mut [u8]) -> usize
 {
     let table = sheet::read_sheet(bytes);
     if table.refusal != 0 {
-        return report::refusal(text, 0, table.refusal as usize);
+        return report::refusal(text, 0, usize::from(table.refusal));
     }
     let mut end = labelled(text, 0, b"sheet k ", table.k);
     end = labelled(text, end, b" root ", table.root);
@@ -89,15 +87,10 @@ fn sheet_line(bytes: &[u8], text: &mut [u8]) -> usize
 
 // Where the last node's record starts.
 fn last_start(table: sheet::Table) -> usize {
-    let n = table.nodes;
-    if n == 0 {
-        return 0;
+    match table.nodes {
+        n @ 1..=200 => usize::from(table.starts[n - 1]),
+        _ => 0,
     }
-    if 200 < n {
-        return 0;
-    }
-    let last = n - 1;
-    table.starts[last] as usize
 }
 
 fn job_line(bytes: &[u8], text: &mut [u8; job::LINE]) -> usize
@@ -133,7 +126,7 @@ fn answer(letter: u8, bytes: &[u8], text: &mut [u8; job::LINE]) -> usize
         b'u' => turns::undo_line(bytes, text),
         b'k' => tool_line(bytes, text),
         b'p' => {
-            if bytes.len() == 0 {
+            if bytes.is_empty() {
                 return 0;
             }
             plan_line(bytes[0], &bytes[1..], text)

@@ -14,7 +14,7 @@ use Rattle.rules.specs.Explain.Calls.{Explanation, success, before, walked, expl
 use Rattle.walk.specs.declared.chain.Met.{Met}
 use Rattle.walk.specs.Call.{WalkCall}
 use Rattle.walk.specs.Call.Explained.{why_of, Explains}
-use Rattle.explaining.specs.declared.Explanation.{Explanation as WhyReply}
+use Rattle.explaining.specs.Explain.{WhyReply}
 use Rattle.calls.specs.Reply.{Reply}
 use Rattle.buffers.specs.Buffers.{zeroed}
 use Rattle.calls.specs.Calls.{after_refusal}

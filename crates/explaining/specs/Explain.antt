@@ -6,9 +6,19 @@ use Rattle.std.proofs.Math.Option.{Option, none, some}
 use Rattle.rules.specs.Explain.Calls.{Explanation, success, before, walked}
 use Rattle.starts.specs.Starts.{firsts}
 use Rattle.rules.specs.Numbers.{chain_limit}
-use Rattle.explaining.specs.declared.Explanation.{Explanation as WhyReply}
+use Rattle.std.specs.Prelude.{Option as Answer, Some, None}
+use Rattle.refusal.specs.Refusal.{number_of}
+use Rattle.explaining.specs.declared.Why.{Why}
 use Rattle.buffers.specs.Buffers.{zeroed}
 use Rattle.calls.specs.Calls.{after_refusal}
+
+-- an explanation in numbers: the refusal, 0 for a success; how many nodes its chain has; the chain's nodes, with zeros behind them; and one more than
+-- the node that wrote first, 0 where there is none
+pub record WhyReply : Type 0 where
+  pub refusal : ℕ
+  pub depth : ℕ
+  pub chain : List ℕ
+  pub first : ℕ
 
 -- no node: a success (0), or a refusal from before the walk
 unfoldable pub unmet : ℕ → WhyReply
@@ -24,6 +34,11 @@ unfoldable pub told_as : Explanation → WhyReply
 told_as success = unmet 0
 told_as (before c) = unmet c
 told_as (walked y) = record { refusal = y.code; depth = length y.chain; chain = firsts chain_limit y.chain; first = first_number y.first }
+
+-- what the code answers
+unfoldable pub why_reply : Answer Why → WhyReply
+why_reply None = unmet 0
+why_reply (Some w) = record { refusal = number_of w.refusal; depth = w.depth; chain = w.chain; first = w.first }
 
 -- refusals 2 and 3 do not touch scratch; every other ending zeroes its first 65,536 bytes and touches no others
 unfoldable pub why_cleared : Explanation → List ℕ → List ℕ

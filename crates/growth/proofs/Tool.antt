@@ -1,11 +1,14 @@
 -- What the tool of request 14 tells, and its counts.
-use Rattle.std.specs.Prelude.{◌≡◌, refl, Bool, true, false, ◌&&◌, List, [], ◌∷◌, ℕ, zero, suc, ◌+◌, ◌-◌, ◌≤◌, ◌<◌, min, get_or, drop, set, replicate}
+use Rattle.std.specs.Prelude.{◌≡◌, refl, Bool, true, false, ◌&&◌, List, [], ◌∷◌, ℕ, zero, suc, ◌+◌, ◌-◌, ◌≤◌, ◌<◌, min, get_or, take, drop, set, replicate}
+use Rattle.std.specs.Prelude.{cond, eqb}
 use Rattle.std.proofs.Math.Path.{sym}
 use Rattle.std.proofs.Common.{ap, ◌∙◌, add-one, arith, drop_of_length-le, length-set, drop-cons, get_or-set_same, get_or-set_other}
 use Rattle.std.proofs.Math.Decide.{ℕ_discrete}
 use Rattle.std.proofs.Math.ListN.{length}
-use borrow.Author.Tests.{eq-eqb, ne_eqb, lt-ltb, le-ltb, lt-leb, le-leb}
-use Rattle.value.specs.Result.{ok, refusal, and_then, unless}
+use Rattle.std.proofs.lemmas.List.{get_or-take, length-take}
+use borrow.Author.Tests.{lt-ltb, le-ltb, lt-leb, le-leb}
+use mir.Val.{bool_byte}
+use Rattle.value.specs.Result.{ok, refusal, and_then, map_result, unless}
 use Rattle.value.proofs.Laws.{and-true}
 use Rattle.node.specs.declared.Node.{Node}
 use Rattle.node.specs.declared.Node.TheVariants.{False, Var, Front, Pair, Add}
@@ -15,10 +18,9 @@ use Rattle.sheet.specs.Sheet.{Sheet, read_sheet}
 use Rattle.node.specs.Decoding.{node_at}
 use Rattle.sheet.specs.Table.{table_of}
 use Rattle.sheet.specs.Laws.{Reads, table_refused, table_reads}
-use Rattle.growth.specs.declared.Growing.TheVariants.{Times, Refused}
 use Rattle.growth.specs.Growth.{plain, all_plain, own, entered, capped, growth_of}
 use Rattle.growth.proofs.Counts.{none_behind, one_capped, capped_is}
-use Rattle.growth.specs.Tool.{Plains, AllJudged, Readied, OneCounted, Counts, Counted, told}
+use Rattle.growth.specs.Tool.{Plains, AllJudged, Readied, OneCounted, Counts, Counted}
 
 same_sheet : (s : List ℕ) {sh sh' : Sheet} → read_sheet s ≡ ok sh → read_sheet s ≡ ok sh' → sh ≡ sh'
 same_sheet s e f = cc
@@ -29,6 +31,18 @@ plains_none s t = record { few = omega arith; rest = λ sh r. refl }
 next_plain : (ns : List Node) (i : ℕ) → i < length ns → all_plain (drop i ns) ≡ plain (get_or ns i False) && all_plain (drop (i + 1) ns)
 unfolding all_plain
 next_plain ns i h = rw (add-one, drop-cons ns i False)
+
+-- the places of the table's nodes, one by one
+module _ (t : Table) {i : ℕ} where
+  pub early : i < length (take t.nodes t.starts) → i < t.nodes
+  early h = omega (arith, length-take t.nodes t.starts)
+
+  pub node_in : (s : List ℕ) {n : Node} {a : ℕ} → i < length (take t.nodes t.starts) → n ≡ node_at s a → a ≡ get_or (take t.nodes t.starts) i 0
+      → n ≡ node_at s (get_or t.starts i 0)
+  node_in s h e f = e ∙ ap (node_at s) (f ∙ get_or-take t.nodes t.starts i 0 (early h))
+
+  pub late : length (take t.nodes t.starts) ≤ i → t.nodes ≤ length t.starts → t.nodes ≤ i
+  late h l = omega (arith, length-take t.nodes t.starts)
 
 module _ {s : List ℕ} {t : Table} (q : Readied s t) {i : ℕ} (to : Plains s t i) where
   pub plains_all : t.nodes ≤ i → AllJudged s true
@@ -55,13 +69,13 @@ module _ {s : List ℕ} {t : Table} (q : Readied s t) {i : ℕ} (to : Plains s t
 
 -- ONE NODE'S COUNT
 module _ {n : Node} (x : ℕ) (counts : List ℕ) where
-  pub var_counted : {y : ℕ} → n ≡ Var y → y ≡ x → OneCounted n x counts 1
+  pub var_counted : {y r : ℕ} → n ≡ Var y → r ≡ bool_byte (eqb y x) → OneCounted n x counts r
   unfolding own children variables
-  var_counted {y} e h p = rw (e, eq-eqb y x h)
-
-  pub other_counted : {y : ℕ} → n ≡ Var y → (y ≡ x → ⊥) → OneCounted n x counts 0
-  unfolding own children variables
-  other_counted {y} e h p = rw (e, ne_eqb y x h)
+  var_counted {y} e h p = rw (e, h) (one (eqb y x))
+    where
+      one : (b : Bool) → bool_byte b ≡ min 257 (cond b 1 0 + 0)
+      one true = refl
+      one false = refl
 
   module _ {a b ca cb r : ℕ} (first : ca ≡ get_or counts a 0) (second : cb ≡ get_or counts b 0) (sum : r ≡ min 257 (ca + cb)) where
     pub front_counted : n ≡ Front a b → OneCounted n x counts r
@@ -126,38 +140,35 @@ module _ {s : List ℕ} {t : Table} (q : Readied s t) {x : ℕ} {counts : List �
 -- WHOLE CALLS
 
 -- the sheet is refused
-pub no_sheet : (s : List ℕ) {t : Table} → t ≡ table_of (read_sheet s) → (t.refusal ≡ 0 → ⊥) → (x : ℕ) → Refused t.refusal ≡ told (growth_of s x)
-unfolding growth_of told and_then
-no_sheet s {t} e n x =
-    let f : t.refusal ≡ (table_of (read_sheet s)).refusal = ap (λ (u : Table). u.refusal) e in
-    let g : read_sheet s ≡ refusal t.refusal = table_refused s (λ z. n (f ∙ z)) ∙ ap refusal (sym f) in
-    sym (rw g)
+pub no_sheet : (s : List ℕ) {c : ℕ} → refusal c ≡ map_result table_of (read_sheet s) → (x : ℕ) → refusal c ≡ growth_of s x
+unfolding growth_of and_then
+no_sheet s e x = sym (rw (table_refused s e))
 
 -- it is read
-pub ready : (s : List ℕ) {t : Table} → t ≡ table_of (read_sheet s) → t.refusal ≡ 0 → Readied s t
-ready s e z = let (sh, r) = table_reads s e z in record { sh = sh; reads = r }
+pub ready : (s : List ℕ) {t : Table} → ok t ≡ map_result table_of (read_sheet s) → Readied s t
+ready s e = let (sh, r) = table_reads s e in record { sh = sh; reads = r }
 
 module _ {s : List ℕ} {t : Table} (q : Readied s t) (x : ℕ) {p : Bool} (judged : AllJudged s p) where
   all_are : all_plain q.sh.nodes ≡ p
   all_are = sym (judged q.sh q.reads.sheet)
 
-  pub tells_87 : p ≡ false → Refused 87 ≡ told (growth_of s x)
-  unfolding growth_of told and_then unless
+  pub tells_87 : p ≡ false → refusal 87 ≡ growth_of s x
+  unfolding growth_of and_then unless
   tells_87 e = sym (rw (q.reads.sheet, all_are, e))
 
   module _ (all : p ≡ true) where
-    pub tells_23 : t.k ≤ x → Refused 23 ≡ told (growth_of s x)
-    unfolding growth_of told and_then unless
+    pub tells_23 : t.k ≤ x → refusal 23 ≡ growth_of s x
+    unfolding growth_of and_then unless
     tells_23 h = sym (rw (q.reads.sheet, all_are, all, le-ltb x q.sh.k (omega (arith, q.reads.k))))
 
     module _ (h : x < t.k) {r : ℕ} (counted : Counted s x r) where
       count_is : r ≡ capped q.sh x
       count_is = counted q.sh q.reads.sheet (all_are ∙ all)
 
-      pub tells_88 : 256 < r → Refused 88 ≡ told (growth_of s x)
-      unfolding growth_of told and_then unless
+      pub tells_88 : 256 < r → refusal 88 ≡ growth_of s x
+      unfolding growth_of and_then unless
       tells_88 g = sym (rw (q.reads.sheet, all_are, all, lt-ltb x q.sh.k (omega (arith, q.reads.k)), ← count_is, lt-leb r 256 g))
 
-      pub tells_times : r ≤ 256 → Times r ≡ told (growth_of s x)
-      unfolding growth_of told and_then unless
+      pub tells_times : r ≤ 256 → ok r ≡ growth_of s x
+      unfolding growth_of and_then unless
       tells_times g = sym (rw (q.reads.sheet, all_are, all, lt-ltb x q.sh.k (omega (arith, q.reads.k)), ← count_is, le-leb r 256 g))

@@ -7,23 +7,16 @@ use Rattle.sheet.specs.declared.Table.{Table}
 use Rattle.node.specs.Kinds.{children}
 use Rattle.sheet.specs.Sheet.{Sheet, read_sheet}
 use Rattle.sheet.specs.Laws.{Reads}
-use Rattle.growth.specs.declared.Growing.{Growing}
-use Rattle.growth.specs.declared.Growing.TheVariants.{Times, Refused}
 use Rattle.growth.specs.Growth.{plain, all_plain, own, total, entered, capped}
 
--- a report as the tool's enum
-unfoldable pub told : Result ℕ → Growing
-told (ok r) = Times r
-told (refusal c) = Refused c
-
 -- the number of each case in document 02, 0 for a success; and what is told beside it
-unfoldable pub code_of : Growing → ℕ
-code_of (Times r) = 0
-code_of (Refused c) = c
+unfoldable pub code_of : Result ℕ → ℕ
+code_of (ok r) = 0
+code_of (refusal c) = c
 
-unfoldable pub times_of : Growing → ℕ
-times_of (Times r) = r
-times_of (Refused c) = 0
+unfoldable pub times_of : Result ℕ → ℕ
+times_of (ok r) = r
+times_of (refusal c) = 0
 
 -- a sheet that was read, with its table
 pub record Readied (s : List ℕ) (t : Table) : Type 0 where

@@ -2,18 +2,13 @@
 #![tactic(auto)]
 
 ghost use Rattle.std.specs.Prelude.{◌≡◌, ◌+◌, min, get_or};
+ghost use Rattle.value.specs.Numbered.{numbered};
 ghost use Rattle.growth.specs.Growth.{plain, growth_of};
-ghost use Rattle.growth.specs.Tool.{told, Readied, AllJudged, OneCounted, Counted};
+ghost use Rattle.growth.specs.Tool.{Readied, AllJudged, OneCounted, Counted};
 
 use node::Node;
+use refusal::Refusal;
 use sheet::Table;
-
-/// How often the records of a variable are entered; or a refusal's number.
-#[derive(Clone, Copy, Debug, PartialEq, Eq)]
-pub enum Growing {
-    Times(u16),
-    Refused(u8),
-}
 
 // The most times that are told, and where counts stop.
 const MOST: u16 = 256;
@@ -24,14 +19,14 @@ const OVER: u16 = 257;
 fn is_plain(node: Node) -> bool
     ensures { result ≡ plain node }
 {
-    match node {
-        Node::ListCase { .. } => false,
-        Node::TruthCase { .. } => false,
-        Node::Split { .. } => false,
-        Node::Call { .. } => false,
-        Node::Each { .. } => false,
-        _ => true,
-    }
+    !matches!(
+        node,
+        Node::ListCase { .. }
+            | Node::TruthCase { .. }
+            | Node::Split { .. }
+            | Node::Call { .. }
+            | Node::Each { .. }
+    )
 }
 
 // Whether every node of a sheet is.
@@ -39,13 +34,10 @@ fn all_plain(sheet: &[u8], table: Table) -> bool
     requires { Readied sheet.now table }
     ensures { AllJudged sheet.now result }
 {
-    let mut i = 0;
-    while i < table.nodes {
-        let at = table.starts[i] as usize;
-        if !is_plain(node::node_at(sheet, at)) {
+    for &start in &table.starts[..table.nodes] {
+        if !is_plain(node::node_at(sheet, usize::from(start))) {
             return false;
         }
-        i += 1;
     }
     true
 }
@@ -54,23 +46,14 @@ fn all_plain(sheet: &[u8], table: Table) -> bool
 fn count_at(counts: &[u16], node: usize) -> u16
     ensures { result ≡ get_or counts.now node 0 }
 {
-    if counts.len() <= node {
-        return 0;
-    }
-    counts[node]
+    counts.get(node).copied().unwrap_or(0)
 }
 
 // The sum of two counts, capped.
 fn sum(a: u16, b: u16) -> u16
     ensures { result ≡ min 257 (a + b) }
 {
-    if OVER <= a {
-        return OVER;
-    }
-    if OVER - a <= b {
-        return OVER;
-    }
-    a + b
+    a.saturating_add(b).min(OVER)
 }
 
 // How often a walk from this node enters the variable's records, of the counts behind it.
@@ -78,7 +61,7 @@ fn count_of(node: Node, variable: usize, counts: &[u16]) -> u16
     ensures { OneCounted node variable counts.now result }
 {
     match node {
-        Node::Var(x) => { if x == variable { 1 } else { 0 } }
+        Node::Var(x) => u16::from(x == variable),
         Node::Front { first, rest } => sum(count_at(counts, first), count_at(counts, rest)),
         Node::Pair { left, right } => sum(count_at(counts, left), count_at(counts, right)),
         Node::Add { node, .. } => sum(count_at(counts, node), 0),
@@ -92,34 +75,28 @@ fn count(sheet: &[u8], table: Table, variable: usize) -> u16
     ensures { Counted sheet.now variable result }
 {
     let mut counts = [0u16; 200];
-    let mut i = table.nodes;
-    while 0 < i {
-        i -= 1;
-        let at = table.starts[i] as usize;
+    for i in (0..table.nodes).rev() {
+        let at = usize::from(table.starts[i]);
         counts[i] = count_of(node::node_at(sheet, at), variable, &counts);
     }
-    let root = table.root;
-    counts[root]
+    counts[table.root]
 }
 
 /// How often a walk from the sheet's root enters a record of the variable, every refusal left aside. Refusals: the sheet's (10 to 14), then 87 a
 /// node of another kind than 10 to 16, 1B and 1D, 23 no such variable, 88 more than 256 times.
-pub fn growth(sheet: &[u8], variable: usize) -> Growing
-    ensures { result ≡ told (growth_of sheet.now variable) }
+pub fn growth(sheet: &[u8], variable: usize) -> Result<u16, Refusal>
+    ensures { numbered result ≡ growth_of sheet.now variable }
 {
-    let table = sheet::read_sheet(sheet);
-    if table.refusal != 0 {
-        return Growing::Refused(table.refusal);
-    }
+    let table = sheet::read_sheet(sheet)?;
     if !all_plain(sheet, table) {
-        return Growing::Refused(87);
+        return Err(Refusal::OtherKind);
     }
     if table.k <= variable {
-        return Growing::Refused(23);
+        return Err(Refusal::Variable);
     }
     let r = count(sheet, table, variable);
     if MOST < r {
-        return Growing::Refused(88);
+        return Err(Refusal::GrowthLarge);
     }
-    Growing::Times(r)
+    Ok(r)
 }

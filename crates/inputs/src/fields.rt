@@ -1,5 +1,5 @@
 //! The fields of an input: numbers and parts at a place, those of a get or a put, and starts.
-ghost use Rattle.std.specs.Prelude.{◌≡◌, ◌+◌, ◌*◌, ◌<◌, min, get_or, drop};
+ghost use Rattle.std.specs.Prelude.{◌≡◌, ◌<◌, min, get_or, drop};
 ghost use Rattle.inputs.specs.Format.{two, part, fields_of, sheet_of, plan_of, view_of};
 ghost use Rattle.inputs.specs.Starts.{starts_in};
 
@@ -13,33 +13,11 @@ pub struct Fields {
     pub plan: usize,
 }
 
-/// All fields are there, or a part is cut.
-#[derive(Clone, Copy, Debug, PartialEq, Eq)]
-pub enum Taken {
-    Whole(Fields),
-    Cut,
-}
-
-fn extend(b: u8) -> u32
-    ensures { (result ≡ b) × (result < 256) }
-{
-    b as u32
-}
-
-fn joined(high: u8, low: u8) -> usize
-    ensures { (result ≡ 256 * high + low) × (result < 65536) }
-{
-    256 * (high as usize) + (low as usize)
-}
-
 /// The byte at a place; 0 behind the end.
 pub fn byte_at(input: &[u8], i: usize) -> u8
     ensures { result ≡ get_or input.now i 0 }
 {
-    if i < input.len() {
-        return input[i];
-    }
-    0
+    input.get(i).copied().unwrap_or(0)
 }
 
 /// The number of two bytes at a place, high byte first; a byte behind the end counts as 0.
@@ -47,7 +25,7 @@ pub fn number_at(input: &[u8], i: usize) -> usize
     ensures { (result ≡ two input.now i) × (result < 65536) }
 {
     if i < input.len() {
-        return joined(input[i], byte_at(input, i + 1));
+        return usize::from(u16::from_be_bytes([input[i], byte_at(input, i + 1)]));
     }
     0
 }
@@ -57,36 +35,30 @@ pub fn part_at(input: &[u8], i: usize, n: usize) -> &[u8]
     ensures { result.now ≡ part input.now i n }
 {
     let rest = rest_from(input, i);
-    if n < rest.len() {
-        return &rest[..n];
-    }
-    rest
+    &rest[..n.min(rest.len())]
 }
 
 /// The bytes from a place on.
 pub fn rest_from(input: &[u8], i: usize) -> &[u8]
     ensures { result.now ≡ drop i input.now }
 {
-    if i < input.len() {
-        return &input[i..];
-    }
-    &input[..0]
+    &input[i.min(input.len())..]
 }
 
-/// The fields of a get or a put, whatever the letter is.
-pub fn take_fields(input: &[u8]) -> Taken
+/// The fields of a get or a put, whatever the letter is; none where a part is cut.
+pub fn take_fields(input: &[u8]) -> Option<Fields>
     ensures { result ≡ fields_of input.now }
 {
     let sheet = number_at(input, 4);
     if input.len() < 8 + sheet {
-        return Taken::Cut;
+        return None;
     }
     let plan = number_at(input, 6 + sheet);
     if input.len() < 8 + sheet + plan {
-        return Taken::Cut;
+        return None;
     }
-    let allowance = 65536 * extend(input[1]) + 256 * extend(input[2]) + extend(input[3]);
-    Taken::Whole(Fields {
+    let allowance = u32::from_be_bytes([0, input[1], input[2], input[3]]);
+    Some(Fields {
         allowance,
         sheet,
         plan,
@@ -118,7 +90,7 @@ pub fn view_of(input: &[u8], fields: Fields) -> &[u8]
 pub fn kept(n: u8) -> usize
     ensures { result ≡ min n 16 }
 {
-    if n < 16 { n as usize } else { 16 }
+    usize::from(n.min(16))
 }
 
 /// The starts behind a variable's number: their count at place 2, then numbers of two bytes, of which the first 16 are read.
@@ -128,10 +100,8 @@ pub fn starts_in(input: &[u8]) -> Starts
     let count = byte_at(input, 2);
     let n = kept(count);
     let mut at = [0u16; 16];
-    let mut i = 0;
-    while i < n {
+    for i in 0..n {
         at[i] = number_at(input, 3 + 2 * i) as u16;
-        i += 1;
     }
     Starts { count, at }
 }

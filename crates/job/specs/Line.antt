@@ -1,5 +1,5 @@
 -- The program of document 01: from the bytes of its input to the bytes of the line that it prints.
-use Rattle.std.specs.Prelude.{◌≡◌, cond, List, ℕ, leb, length, take}
+use Rattle.std.specs.Prelude.{◌≡◌, cond, Option, Some, None, List, ℕ, leb, length, take}
 use Rattle.rules.specs.Numbers.{scratch_size, get_output, put_output}
 use Rattle.rules.specs.Answer.{Answer, refusal, success, get_answer, put_answer}
 use Rattle.calls.specs.Reply.{Reply, Done, Refused}
@@ -8,7 +8,7 @@ use Rattle.report.specs.Text.{refusal_line, success_line}
 use Rattle.report.specs.Writing.{Front}
 use Rattle.inputs.specs.Numbers.{input_limit}
 use Rattle.inputs.specs.declared.Job.{Job}
-use Rattle.inputs.specs.declared.Job.TheVariants.{Get, Put, Other}
+use Rattle.inputs.specs.declared.Job.TheVariants.{Get, Put}
 use Rattle.inputs.specs.Format.{sheet_of, plan_of, view_of, job_of, job_number}
 
 -- the most bytes of a line, by the name that the code has for it (src/lib.rt)
@@ -16,10 +16,10 @@ abbrev pub line_limit : ℕ
 line_limit = 8204
 
 -- a job's answer: what the call answers on buffers of the sizes that document 01 asks for, or the number of what is no job
-unfoldable pub answer_of : List ℕ → Job → Answer
-answer_of bs (Get f) = get_answer (sheet_of bs f) (plan_of bs f) f.allowance get_output scratch_size
-answer_of bs (Put f) = put_answer (sheet_of bs f) (plan_of bs f) (view_of bs f) f.allowance put_output scratch_size
-answer_of bs Other = refusal (job_number Other)
+unfoldable pub answer_of : List ℕ → Option Job → Answer
+answer_of bs (Some (Get f)) = get_answer (sheet_of bs f) (plan_of bs f) f.allowance get_output scratch_size
+answer_of bs (Some (Put f)) = put_answer (sheet_of bs f) (plan_of bs f) (view_of bs f) f.allowance put_output scratch_size
+answer_of bs None = refusal (job_number None)
 
 -- over 8,192 bytes: 61, whatever they are
 unfoldable pub job_answer : List ℕ → Answer
@@ -48,10 +48,10 @@ pub record Printed (a : Answer) (r : ℕ) (t t' o o' s s' : List ℕ) : Type 0 w
   pub scratch : s' ≡ cleared a s
 
 -- the buffers of an input's calls: what makes no call leaves both as they were
-unfoldable pub cleared_by : List ℕ → Job → List ℕ → List ℕ
-cleared_by bs (Get f) s = cleared (answer_of bs (Get f)) s
-cleared_by bs (Put f) s = cleared (answer_of bs (Put f)) s
-cleared_by bs Other s = s
+unfoldable pub cleared_by : List ℕ → Option Job → List ℕ → List ℕ
+cleared_by bs (Some (Get f)) s = cleared (answer_of bs (Some (Get f))) s
+cleared_by bs (Some (Put f)) s = cleared (answer_of bs (Some (Put f))) s
+cleared_by bs None s = s
 
 pub record BuffersAfter (bs o o' s s' : List ℕ) : Type 0 where
   pub output : o' ≡ written (job_answer bs) o

@@ -1,5 +1,5 @@
 -- Laws of the program's line: how long it is, that 8,193 bytes of the input decide it, and what shows it of the code.
-use Rattle.std.specs.Prelude.{Bool, true, false, cond, ◌≡◌, List, [], ℕ, ◌+◌, ◌≤◌, ◌<◌, leb, length, take, drop}
+use Rattle.std.specs.Prelude.{Bool, true, false, cond, Option, Some, None, ◌≡◌, List, [], ℕ, ◌+◌, ◌≤◌, ◌<◌, leb, length, take, drop}
 use Rattle.std.proofs.Math.Path.{refl}
 use Rattle.std.proofs.Common.{sym, ap, arith, le-leb, length-take-le, take_all}
 use Rattle.std.proofs.Math.Decide.{dec_le}
@@ -17,7 +17,7 @@ use Rattle.report.specs.Writing.{Wrote, Front, wrote_front, wrote_text}
 use Rattle.inputs.specs.Numbers.{input_limit}
 use Rattle.inputs.specs.declared.fields.Fields.{Fields}
 use Rattle.inputs.specs.declared.Job.{Job}
-use Rattle.inputs.specs.declared.Job.TheVariants.{Get, Put, Other}
+use Rattle.inputs.specs.declared.Job.TheVariants.{Get, Put}
 use Rattle.inputs.specs.Format.{sheet_of, plan_of, view_of, job_of}
 use Rattle.job.specs.Line.{line_limit, answer_of, job_answer, answer_line, job_line, reply_line, Printed, cleared_by, BuffersAfter}
 
@@ -42,11 +42,11 @@ fits_refusal : (c : ℕ) → c < 256 → length (answer_line (refusal c)) ≤ li
 unfolding answer_line
 fits_refusal c h = omega (arith, refusal_length c h)
 
-fits_job : (bs : List ℕ) (j : Job) → length (answer_line (answer_of bs j)) ≤ line_limit
+fits_job : (bs : List ℕ) (j : Option Job) → length (answer_line (answer_of bs j)) ≤ line_limit
 unfolding answer_of
-fits_job bs (Get f) = fits_get _ _ f.allowance get_output scratch_size
-fits_job bs (Put f) = fits_put _ _ _ f.allowance put_output scratch_size
-fits_job bs Other = fits_refusal 60 (omega arith)
+fits_job bs (Some (Get f)) = fits_get _ _ f.allowance get_output scratch_size
+fits_job bs (Some (Put f)) = fits_put _ _ _ f.allowance put_output scratch_size
+fits_job bs None = fits_refusal 60 (omega arith)
 
 pub line_fits : (bs : List ℕ) → length (job_line bs) ≤ line_limit
 unfolding job_line job_answer
@@ -111,7 +111,7 @@ module _ (bs : List ℕ) where
   unfolding job_answer
   answer_over h = rw (lt-leb (length bs) input_limit h)
 
-  answer_job : {i j : Job} → length bs ≤ input_limit → i ≡ job_of bs → i ≡ j → job_answer bs ≡ answer_of bs j
+  answer_job : {i j : Option Job} → length bs ≤ input_limit → i ≡ job_of bs → i ≡ j → job_answer bs ≡ answer_of bs j
   unfolding job_answer
   answer_job h e q = rw (le-leb (length bs) input_limit h, ← e, q)
 
@@ -119,7 +119,7 @@ module _ (bs : List ℕ) where
   unfolding written
   lent_over o s h = record { output = rw (answer_over h); scratch = rw (lt-leb (length bs) input_limit h) }
 
-  lent_job : {i j : Job} → length bs ≤ input_limit → i ≡ job_of bs → i ≡ j → {o o' s s' : List ℕ}
+  lent_job : {i j : Option Job} → length bs ≤ input_limit → i ≡ job_of bs → i ≡ j → {o o' s s' : List ℕ}
       → o' ≡ written (answer_of bs j) o → s' ≡ cleared_by bs j s → BuffersAfter bs o o' s s'
   lent_job h e q p z = record { output = rw (answer_job h e q) p; scratch = rw (le-leb (length bs) input_limit h, ← e, q) z }
 
@@ -136,23 +136,23 @@ module _ (bs : List ℕ) where
         → Front (job_line bs) t t' r × BuffersAfter bs o o s s
     prints_over {o} {s} et h l = (line_wrote 61 et (answer_over h) l, lent_over o s h)
 
-    module _ {j : Job} (h : length bs ≤ input_limit) (e : j ≡ job_of bs) where
-      pub prints_none : {o s : List ℕ} → length t ≡ line_limit → j ≡ Other → Wrote (refusal_line 60) 0 t t' r → Front (job_line bs) t t' r
+    module _ {j : Option Job} (h : length bs ≤ input_limit) (e : j ≡ job_of bs) where
+      pub prints_none : {o s : List ℕ} → length t ≡ line_limit → j ≡ None → Wrote (refusal_line 60) 0 t t' r → Front (job_line bs) t t' r
           × BuffersAfter bs o o s s
       unfolding answer_of written cleared_by
       prints_none et q l = (line_wrote 60 et (answer_job h e q) l, lent_job h e q refl refl)
 
       module _ {f : Fields} {sheet plan : List ℕ} (es : sheet ≡ sheet_of bs f) (ep : plan ≡ plan_of bs f) {o o' s s' : List ℕ} where
-        pub prints_get : j ≡ Get f → Printed (get_answer sheet plan f.allowance get_output scratch_size) r t t' o o' s s'
+        pub prints_get : j ≡ Some (Get f) → Printed (get_answer sheet plan f.allowance get_output scratch_size) r t t' o o' s s'
             → Front (job_line bs) t t' r × BuffersAfter bs o o' s s'
         unfolding answer_of cleared_by
         prints_get q w =
-            let v : Printed (answer_of bs (Get f)) r t t' o o' s s' = rw (es, ep) at w in
+            let v : Printed (answer_of bs (Some (Get f))) r t t' o o' s s' = rw (es, ep) at w in
             (line_said (answer_job h e q) v.text, lent_job h e q v.output v.scratch)
 
-        pub prints_put : {view : List ℕ} → j ≡ Put f → view ≡ view_of bs f
+        pub prints_put : {view : List ℕ} → j ≡ Some (Put f) → view ≡ view_of bs f
             → Printed (put_answer sheet plan view f.allowance put_output scratch_size) r t t' o o' s s' → Front (job_line bs) t t' r × BuffersAfter bs o o' s s'
         unfolding answer_of cleared_by
         prints_put q ev w =
-            let v : Printed (answer_of bs (Put f)) r t t' o o' s s' = rw (es, ep, ev) at w in
+            let v : Printed (answer_of bs (Some (Put f))) r t t' o o' s s' = rw (es, ep, ev) at w in
             (line_said (answer_job h e q) v.text, lent_job h e q v.output v.scratch)

@@ -19,7 +19,7 @@ fn reply_line(reply: Reply, out: &[u8], text: &mut [u8]) -> usize
     ensures { Wrote (reply_line reply out.now) 0 text.old text.new result }
 {
     match reply {
-        Reply::Refused(c) => report::refusal(text, 0, c as usize),
+        Reply::Refused(c) => report::refusal(text, 0, usize::from(c)),
         Reply::Done { len, steps } => report::success(text, 0, steps, &out[..len]),
     }
 }
@@ -71,7 +71,10 @@ pub fn line(
     if INPUT < input.len() {
         return report::refusal(text, 0, 61);
     }
-    match inputs::parse(input) {
+    let Some(job) = inputs::parse(input) else {
+        return report::refusal(text, 0, 60);
+    };
+    match job {
         Job::Get(f) => get_line(
             sheet_of(input, f),
             plan_of(input, f),
@@ -89,6 +92,5 @@ pub fn line(
             scratch,
             text,
         ),
-        Job::Other => report::refusal(text, 0, 60),
     }
 }

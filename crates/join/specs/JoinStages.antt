@@ -1,8 +1,8 @@
 -- What `join` has found out, stage by stage, and what it then answers.
-use Rattle.std.specs.Prelude.{◌≡◌, List, ℕ, ◌+◌, ◌≤◌, ◌<◌, length}
+use Rattle.std.specs.Prelude.{◌≡◌, List, ℕ, ◌+◌, ◌≤◌, ◌<◌, length, Ok, Err}
 use Rattle.std.proofs.Common.{sym, ◌∙◌, arith}
 use Rattle.std.proofs.Math.Path.{ap}
-use Rattle.value.specs.Result.{ok, refusal}
+use Rattle.value.specs.Result.{ok, refusal, map_result}
 use Rattle.report.specs.Writing.{Wrote}
 use Rattle.sheet.specs.declared.Table.{Table}
 use Rattle.sheet.specs.Sheet.{Sheet, read_sheet}
@@ -10,7 +10,9 @@ use Rattle.sheet.specs.Table.{table_of}
 use Rattle.sheet.specs.Laws.{Reads, table_reads, table_refused}
 use Rattle.sheet.specs.Rows.{sheet_written}
 use Rattle.sheet.proofs.Written.{Bytes}
-use Rattle.made.specs.declared.Made.TheVariants.{Done, Refused}
+use Rattle.refusal.specs.declared.Refusal.{Refusal}
+use Rattle.refusal.specs.declared.Refusal.TheVariants.{OutputSmall, SheetsDiffer, JoinFull}
+use Rattle.refusal.specs.Refusal.{number_of}
 use Rattle.made.specs.Made.{Makes, makes_no, makes_text}
 use Rattle.joined.specs.Joined.{joined}
 use Rattle.joined.specs.JoinedCalls.{joined_bytes}
@@ -19,49 +21,43 @@ use Rattle.join.specs.JoinWritten.{Joinable, joined_fits}
 
 -- a sheet that was read
 pub record Fine (s : List ℕ) (a : Table) : Type 0 where
-  pub table : a ≡ table_of (read_sheet s)
-  pub zero : a.refusal ≡ 0
+  pub table : ok a ≡ map_result table_of (read_sheet s)
 
 fine_read : {s : List ℕ} {a : Table} → Fine s a → (sh : Sheet) × Reads s a sh
-fine_read {s} f = table_reads s f.table f.zero
+fine_read {s} f = table_reads s f.table
 
 -- its table holds no more
 pub fine_few : {s : List ℕ} {a : Table} → Fine s a → (a.nodes ≤ 200) × (a.sections ≤ 8)
 fine_few f = let r = (fine_read f).1 in (omega (arith, r.nodes, r.ranges.few_nodes), omega (arith, r.sections, r.ranges.few_sections))
 
-refused_is : (s : List ℕ) {a : Table} → a ≡ table_of (read_sheet s) → (a.refusal ≡ 0 → ⊥) → read_sheet s ≡ refusal a.refusal
-refused_is s {a} e f =
-    let q : a.refusal ≡ (table_of (read_sheet s)).refusal = ap (λ (t : Table). t.refusal) e in
-    table_refused s (λ z. f (q ∙ z)) ∙ ap refusal (sym q)
-
 module _ (s t b : List ℕ) where
-  pub no_room : length b < 2048 → Makes (join_answer s t (length b)) (Refused 1) b b
-  no_room h = makes_no _ (join_1 s t (length b) h)
+  pub no_room : length b < 2048 → Makes (join_answer s t (length b)) (Err OutputSmall) b b
+  no_room h = makes_no OutputSmall (join_1 s t (length b) h)
 
-  module _ (room : 2048 ≤ length b) {x : Table} where
-    pub no_first : x ≡ table_of (read_sheet s) → (x.refusal ≡ 0 → ⊥) → Makes (join_answer s t (length b)) (Refused x.refusal) b b
-    no_first e f = makes_no _ (join_first s t (length b) room (refused_is s e f))
+  module _ (room : 2048 ≤ length b) where
+    pub no_first : {e : Refusal} → refusal (number_of e) ≡ map_result table_of (read_sheet s) → Makes (join_answer s t (length b)) (Err e) b b
+    no_first {e} f = makes_no e (join_first s t (length b) room (table_refused s f))
 
-    module _ (fine : Fine s x) {y : Table} where
-      pub no_second : y ≡ table_of (read_sheet t) → (y.refusal ≡ 0 → ⊥) → Makes (join_answer s t (length b)) (Refused y.refusal) b b
-      no_second e f = makes_no _ (join_second s t (length b) room (fine_read fine).1.sheet (refused_is t e f))
+    module _ {x : Table} (fine : Fine s x) where
+      pub no_second : {e : Refusal} → refusal (number_of e) ≡ map_result table_of (read_sheet t) → Makes (join_answer s t (length b)) (Err e) b b
+      no_second {e} f = makes_no e (join_second s t (length b) room (fine_read fine).1.sheet (table_refused t f))
 
-      module _ (fine' : Fine t y) where
-        pub no_variables : (x.k ≡ y.k → ⊥) → Makes (join_answer s t (length b)) (Refused 83) b b
-        no_variables f = makes_no _ (join_83 s t (length b) room (fine_read fine).1.sheet (fine_read fine').1.sheet
+      module _ {y : Table} (fine' : Fine t y) where
+        pub no_variables : (x.k ≡ y.k → ⊥) → Makes (join_answer s t (length b)) (Err SheetsDiffer) b b
+        no_variables f = makes_no SheetsDiffer (join_83 s t (length b) room (fine_read fine).1.sheet (fine_read fine').1.sheet
             (λ e. f ((fine_read fine).1.k ∙ e ∙ sym (fine_read fine').1.k)))
 
         module _ (k : x.k ≡ y.k) where
           same_k : (fine_read fine).0.k ≡ (fine_read fine').0.k
           same_k = sym (fine_read fine).1.k ∙ k ∙ (fine_read fine').1.k
 
-          pub no_nodes : 200 < 1 + x.nodes + y.nodes → Makes (join_answer s t (length b)) (Refused 84) b b
-          no_nodes h = makes_no _ (join_nodes s t (length b) room (fine_read fine).1.sheet (fine_read fine').1.sheet same_k
+          pub no_nodes : 200 < 1 + x.nodes + y.nodes → Makes (join_answer s t (length b)) (Err JoinFull) b b
+          no_nodes h = makes_no JoinFull (join_nodes s t (length b) room (fine_read fine).1.sheet (fine_read fine').1.sheet same_k
               (omega (arith, (fine_read fine).1.nodes, (fine_read fine').1.nodes)))
 
           module _ (n : 1 + x.nodes + y.nodes ≤ 200) where
-            pub no_sections : 8 < x.sections + y.sections → Makes (join_answer s t (length b)) (Refused 84) b b
-            no_sections h = makes_no _ (join_sections s t (length b) room (fine_read fine).1.sheet (fine_read fine').1.sheet same_k
+            pub no_sections : 8 < x.sections + y.sections → Makes (join_answer s t (length b)) (Err JoinFull) b b
+            no_sections h = makes_no JoinFull (join_sections s t (length b) room (fine_read fine).1.sheet (fine_read fine').1.sheet same_k
                 (omega (arith, (fine_read fine).1.nodes, (fine_read fine').1.nodes)) (omega (arith, (fine_read fine).1.sections, (fine_read fine').1.sections)))
 
             module _ (c : x.sections + y.sections ≤ 8) where
@@ -79,7 +75,7 @@ module _ (s t b : List ℕ) where
               }
 
               pub all_written : {r : ℕ} {b' : List ℕ} → Bytes s → Bytes t → Wrote (text_of (joined_bytes s t)) 0 b b' r
-                  → Makes (join_answer s t (length b)) (Done r) b b'
+                  → Makes (join_answer s t (length b)) (Ok r) b b'
               unfolding text_of
               all_written small small' w =
                   let e : join_answer s t (length b) ≡ ok (text_of (joined_bytes s t))

@@ -5,7 +5,7 @@ use Rattle.std.proofs.Common.{◌∙◌, append_assoc, arith}
 use Prim.Native.Nat.{ℕ, suc, ◌+◌, ◌≤◌, ◌<◌}
 use Rattle.std.proofs.Math.Nat.{zero-add}
 use Rattle.std.proofs.Math.ListN.{length}
-use Rattle.value.specs.Result.{ok}
+use Rattle.value.specs.Result.{ok, map_result}
 use Rattle.report.specs.Writing.{Wrote, wrote_then, wrote_text}
 use Rattle.node.specs.declared.Node.{Node}
 use Rattle.node.specs.declared.Node.TheVariants.{False}
@@ -34,8 +34,8 @@ anew_of count by sby = record { count = count; order = shifted_by 0; nodes = shi
 
 -- two sheets that fit
 pub record Joinable (s : List ℕ) (a : Table) (t : List ℕ) (b : Table) : Type 0 where
-  pub first_table : a ≡ table_of (read_sheet s)
-  pub second_table : b ≡ table_of (read_sheet t)
+  pub first_table : ok a ≡ map_result table_of (read_sheet s)
+  pub second_table : ok b ≡ map_result table_of (read_sheet t)
   pub bytes : List ℕ
   pub answer : joined_bytes s t ≡ ok bytes
 
@@ -57,7 +57,7 @@ all_append (n ∷ ns) ms = ap (λ (l : List ℕ). written n ++ l) (all_append ns
 
 -- ONE OF THE TWO SHEETS, its numbers raised
 
-module _ (s : List ℕ) {t : Table} {sh : Sheet} (table : t ≡ table_of (read_sheet s)) (read : read_sheet s ≡ ok sh) (small : Bytes s)
+module _ (s : List ℕ) {t : Table} {sh : Sheet} (table : t ≡ table_of sh) (read : read_sheet s ≡ ok sh) (small : Bytes s)
     (by sby : ℕ) (f g : ℕ → ℕ) (ef : (c : ℕ) → by + c ≡ f c) (eg : (i : ℕ) → sby + i ≡ g i)
     (room : by + length sh.nodes ≤ 256) (room' : sby + length sh.sections ≤ 256) where
   abbrev m : Anew
@@ -68,11 +68,11 @@ module _ (s : List ℕ) {t : Table} {sh : Sheet} (table : t ≡ table_of (read_s
 
   nodes_many : t.nodes ≡ length sh.nodes
   unfolding table_of
-  nodes_many = ap (λ (x : Table). x.nodes) (table ∙ ap table_of read)
+  nodes_many = ap (λ (x : Table). x.nodes) table
 
   sections_many : t.sections ≡ length sh.sections
   unfolding table_of
-  sections_many = ap (λ (x : Table). x.sections) (table ∙ ap table_of read)
+  sections_many = ap (λ (x : Table). x.sections) table
 
   node_raised : (c : ℕ) → c < length sh.nodes → new_node m c ≡ f c
   unfolding anew_of
@@ -144,7 +144,7 @@ pub record Sizes (a b : Table) : Type 0 where
   pub sections : a.sections + b.sections ≤ 8
 
 sizes_of : {x y : Sheet} → Ranges x → Ranges y → suc (length x.nodes + length y.nodes) ≤ 200
-    → length x.sections + length y.sections ≤ 8 → Sizes (table_of (ok x)) (table_of (ok y))
+    → length x.sections + length y.sections ≤ 8 → Sizes (table_of x) (table_of y)
 unfolding table_of
 sizes_of r r' n c = record { k = r.few_variables; root = r.root; other = r'.root; nodes = omega arith; sections = c }
 
@@ -161,11 +161,13 @@ module _ {s t : List ℕ} {a b : Table} (h : Joinable s a t b) (small : Bytes s)
   abbrev y : Sheet
   y = told.second
 
-  first_is : a ≡ table_of (ok x)
-  first_is = h.first_table ∙ ap table_of told.read_first
+  first_is : a ≡ table_of x
+  unfolding map_result
+  first_is = let e : ok a ≡ ok (table_of x) = h.first_table ∙ ap (map_result table_of) told.read_first in cc
 
-  second_is : b ≡ table_of (ok y)
-  second_is = h.second_table ∙ ap table_of told.read_second
+  second_is : b ≡ table_of y
+  unfolding map_result
+  second_is = let e : ok b ≡ ok (table_of y) = h.second_table ∙ ap (map_result table_of) told.read_second in cc
 
   pub sizes : Sizes a b
   sizes = sizes_is first_is second_is (sizes_of (sheet_ranges s told.read_first) (sheet_ranges t told.read_second) told.few_nodes told.few_sections)
@@ -185,12 +187,12 @@ module _ {s t : List ℕ} {a b : Table} (h : Joinable s a t b) (small : Bytes s)
       let v = told.few_sections in
       ap text_of h.answer ∙ told.written ∙ joined-pieces x y
       ∙ sym (pieces_same k (omega arith) (omega arith)
-      (sections_raised s h.first_table told.read_first small 1 0 suc itself (λ i. omega arith) (λ i. omega arith) (omega arith) (omega arith))
-      (sections_raised t h.second_table told.read_second small' (1 + a.nodes) a.sections (node_behind x) (section_behind x)
+      (sections_raised s first_is told.read_first small 1 0 suc itself (λ i. omega arith) (λ i. omega arith) (omega arith) (omega arith))
+      (sections_raised t second_is told.read_second small' (1 + a.nodes) a.sections (node_behind x) (section_behind x)
       (λ i. omega arith) (λ i. omega arith)
       (omega arith) (omega arith))
-      (nodes_raised s h.first_table told.read_first small 1 0 suc itself (λ i. omega arith) (λ i. omega arith) (omega arith) (omega arith))
-      (nodes_raised t h.second_table told.read_second small' (1 + a.nodes) a.sections (node_behind x) (section_behind x)
+      (nodes_raised s first_is told.read_first small 1 0 suc itself (λ i. omega arith) (λ i. omega arith) (omega arith) (omega arith))
+      (nodes_raised t second_is told.read_second small' (1 + a.nodes) a.sections (node_behind x) (section_behind x)
       (λ i. omega arith) (λ i. omega arith)
       (omega arith) (omega arith)))
 

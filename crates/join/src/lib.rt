@@ -10,6 +10,7 @@ ghost use Rattle.report.specs.Writing.{Wrote};
 
 use made::Made;
 use records::Anew;
+use refusal::Refusal;
 use sheet::Table;
 
 /// The bytes of output that joining takes.
@@ -57,24 +58,18 @@ pub fn join(first: &[u8], second: &[u8], out: &mut [u8]) -> Made
     ensures { Makes (join_answer first.now second.now (length out.old)) result out.old out.new }
 {
     if out.len() < OUTPUT {
-        return Made::Refused(1);
+        return Err(Refusal::OutputSmall);
     }
-    let a = sheet::read_sheet(first);
-    if a.refusal != 0 {
-        return Made::Refused(a.refusal);
-    }
-    let b = sheet::read_sheet(second);
-    if b.refusal != 0 {
-        return Made::Refused(b.refusal);
-    }
+    let a = sheet::read_sheet(first)?;
+    let b = sheet::read_sheet(second)?;
     if a.k != b.k {
-        return Made::Refused(83);
+        return Err(Refusal::SheetsDiffer);
     }
     if 200 < 1 + a.nodes + b.nodes {
-        return Made::Refused(84);
+        return Err(Refusal::JoinFull);
     }
     if 8 < a.sections + b.sections {
-        return Made::Refused(84);
+        return Err(Refusal::JoinFull);
     }
-    Made::Done(write(first, a, second, b, out))
+    Ok(write(first, a, second, b, out))
 }

@@ -1,6 +1,6 @@
+pub mod Steps
 pub mod Reader
 pub mod Turns
 pub mod Returns
 pub mod Writer
 pub mod WriterTurns
-pub mod Digits

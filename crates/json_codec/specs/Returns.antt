@@ -1,21 +1,19 @@
 -- What each return of a whole call shows.
-use Rattle.std.specs.Prelude.{◌≡◌, refl, ℕ, suc, ◌+◌, ◌≤◌, ◌<◌, leb, length, get_or, take, set}
-use Rattle.std.proofs.Common.{sym, ◌∙◌, arith, add-one, length-set, drop_of_length-le, take-suc, drop-cons, length-take-le}
+use Rattle.std.specs.Prelude.{◌≡◌, refl, ℕ, ◌+◌, ◌≤◌, ◌<◌, leb, length, get_or, take}
+use Rattle.std.proofs.Common.{◌∙◌, arith, drop_of_length-le}
 use Rattle.std.proofs.Math.Path.{ap}
 use mathlib.Core.List.{List, [], ◌∷◌, ◌++◌}
 use borrow.Author.Tests.{le-leb, lt-leb}
 use Rattle.std.proofs.Math.ListN.{drop}
-use Rattle.std.proofs.lemmas.List.{set_at}
-use Rattle.std.proofs.Math.Seq.{append_snoc}
 use Rattle.value.specs.All.{All, each}
 use Rattle.value.specs.Value.{Value, vfalse, encode, size, flat}
 use Rattle.value.specs.Reading.{read_view}
 use Rattle.value.specs.Laws.{Readable}
 use Rattle.value.proofs.Laws.{read_values_sound}
-use Rattle.value.specs.Spans.{view_code}
+use Rattle.value.specs.Spans.{view_of}
 use Rattle.value.proofs.SpansLaws.{view_ok, view_refusal}
 use Rattle.value.proofs.Encoding.{size-encode}
-use Rattle.value.specs.Result.{Result, ok, refusal, and_then, map_result, unless}
+use Rattle.value.specs.Result.{ok, refusal, and_then, map_result, unless}
 use Rattle.report.specs.Writing.{wrote_front, front_read}
 use Rattle.notation.specs.Text.{json_of, depth, level_limit, write_json}
 use Rattle.notation.proofs.Laws.{json_short}
@@ -26,33 +24,17 @@ use Rattle.notation.proofs.ReadsLaws.{run_take}
 use Rattle.json_codec.specs.Reader.{On, Skips, Gives, g_done, g_refused, at_byte}
 use Rattle.notation.specs.Calls.{json_room, value_room, to_json, from_json}
 use Rattle.made.specs.Made.{Makes, makes_no, makes_ok}
-use Rattle.json_codec.specs.declared.Step.{Step}
-use Rattle.json_codec.specs.declared.Step.TheVariants.{Done, Refused}
-use Rattle.made.specs.declared.Made.TheVariants.{Done as Gave, Refused as Denied}
-
--- BYTES COPIED TO THE FRONT: so far i of them
-pub record Copied (s b a : List ℕ) (i : ℕ) : Type 0 where
-  pub made : a ≡ take i s ++ drop i b
-  pub long : length a ≡ length b
-
-pub none_copied : (s b : List ℕ) → Copied s b b 0
-none_copied s b = record { made = refl; long = refl }
-
-pub copied_more : {s b a : List ℕ} {i : ℕ} → Copied s b a i → i < length s → i < length b → Copied s b (set a i (get_or s i 0)) (i + 1)
-copied_more {s} {b} {a} {i} c h l = record {
-  made = rw (c.made, add-one, drop-cons b i 0 l) (set_at (take i s) (get_or b i 0) (drop (suc i) b) (get_or s i 0) i (length-take-le i s (omega arith))
-      ∙ rw (take-suc s i 0 h) (sym (append_snoc (take i s) (get_or s i 0) (drop (suc i) b))));
-  long = length-set a i (get_or s i 0) ∙ c.long;
-}
-
-pub all_copied : {s b a : List ℕ} {i : ℕ} (n : ℕ) → Copied s b a i → i ≡ n → a ≡ take n s ++ drop n b
-all_copied {s} {b} n c e = c.made ∙ ap (λ (k : ℕ). take k s ++ drop k b) e
+use Rattle.std.specs.Prelude.{Ok, Err}
+use Rattle.refusal.specs.declared.Refusal.{Refusal}
+use Rattle.refusal.specs.declared.Refusal.TheVariants.{OutputSmall, JsonMalformed, JsonLong}
+use Rattle.refusal.specs.Refusal.{number_of}
+use Rattle.json_codec.specs.Steps.{Answer, done}
 
 -- READING
 
-pub read_short : (s o : List ℕ) → length o < value_room → Makes (from_json s (length o)) (Denied 1) o o
+pub read_short : (s o : List ℕ) → length o < value_room → Makes (from_json s (length o)) (Err OutputSmall) o o
 unfolding from_json unless
-read_short s o h = makes_no 1 (rw (lt-leb value_room (length o) h))
+read_short s o h = makes_no OutputSmall (rw (lt-leb value_room (length o) h))
 
 -- the value is read, and then nothing but white space stands there
 whole : (s : List ℕ) {at j : ℕ} (v : Value) → On (value level_limit) s 0 at (λ k. k v) → Skips s at j → length s ≤ j → run s (value level_limit finished) ≡ ok v
@@ -65,40 +47,40 @@ module _ (s o : List ℕ) (h : value_room ≤ length o) where
   unfolding from_json unless read_json
   as_read = rw (le-leb value_room (length o) h)
 
-  refused : {c : ℕ} → run s (value level_limit finished) ≡ refusal c → Makes (from_json s (length o)) (Denied c) o o
+  refused : (c : Refusal) → run s (value level_limit finished) ≡ refusal (number_of c) → Makes (from_json s (length o)) (Err c) o o
   unfolding and_then map_result
-  refused {c} e = makes_no c (as_read ∙ rw e)
+  refused c e = makes_no c (as_read ∙ rw e)
 
-  pub read_refused : {b b' : List ℕ} {r : Step} {c : ℕ} → Gives (value level_limit) encode s 0 0 b b' r → r ≡ Refused c
-      → Makes (from_json s (length o)) (Denied c) o o
+  pub read_refused : {b b' : List ℕ} {r : Answer} {c : Refusal} → Gives (value level_limit) encode s 0 0 b b' r → r ≡ Err c
+      → Makes (from_json s (length o)) (Err c) o o
   read_refused {b} {b'} {c = c} g e = go (rw e at g)
     where
-      go : Gives (value level_limit) encode s 0 0 b b' (Refused c) → Makes (from_json s (length o)) (Denied c) o o
-      go (g_refused l f) = refused (f finished)
+      go : Gives (value level_limit) encode s 0 0 b b' (Err c) → Makes (from_json s (length o)) (Err c) o o
+      go (g_refused c l f) = refused c (f finished)
 
-  pub read_more : {b b' : List ℕ} {r : Step} {at n j : ℕ} → Gives (value level_limit) encode s 0 0 b b' r → r ≡ Done at n → Skips s at j → j < length s
-      → Makes (from_json s (length o)) (Denied 70) o o
+  pub read_more : {b b' : List ℕ} {r : Answer} {at n j : ℕ} → Gives (value level_limit) encode s 0 0 b b' r → r ≡ done at n → Skips s at j → j < length s
+      → Makes (from_json s (length o)) (Err JsonMalformed) o o
   unfolding takes
   read_more {b} {b'} {at} {n} {j} g e q l = go (rw e at g)
     where
-      go : Gives (value level_limit) encode s 0 0 b b' (Done at n) → Makes (from_json s (length o)) (Denied 70) o o
-      go (g_done v w t) = refused (t.goes finished ∙ q.goes (finished v) s_finished ∙ ap (λ (l : List ℕ). run l (finished v)) (at_byte s j l refl)
+      go : Gives (value level_limit) encode s 0 0 b b' (done at n) → Makes (from_json s (length o)) (Err JsonMalformed) o o
+      go (g_done v w t) = refused JsonMalformed (t.goes finished ∙ q.goes (finished v) s_finished ∙ ap (λ (l : List ℕ). run l (finished v)) (at_byte s j l refl)
           ∙ run_take (get_or s j 0) (drop (j + 1) s) (finished v) (q.black l))
 
-  pub read_long : {b b' : List ℕ} {r : Step} {at n j : ℕ} → Gives (value level_limit) encode s 0 0 b b' r → r ≡ Done at n → Skips s at j → length s ≤ j
-      → length b ≡ 257 → 256 < n → Makes (from_json s (length o)) (Denied 72) o o
+  pub read_long : {b b' : List ℕ} {r : Answer} {at n j : ℕ} → Gives (value level_limit) encode s 0 0 b b' r → r ≡ done at n → Skips s at j → length s ≤ j
+      → length b ≡ 257 → 256 < n → Makes (from_json s (length o)) (Err JsonLong) o o
   unfolding and_then unless map_result
   read_long {b} {b'} {at} {n} g e q l m k = go (rw e at g)
     where
-      go : Gives (value level_limit) encode s 0 0 b b' (Done at n) → Makes (from_json s (length o)) (Denied 72) o o
-      go (g_done v w t) = makes_no 72 (as_read ∙ rw (whole s v t q l, lt-leb (size v) 256 (omega (arith, w.end, size-encode v))))
+      go : Gives (value level_limit) encode s 0 0 b b' (done at n) → Makes (from_json s (length o)) (Err JsonLong) o o
+      go (g_done v w t) = makes_no JsonLong (as_read ∙ rw (whole s v t q l, lt-leb (size v) 256 (omega (arith, w.end, size-encode v))))
 
-  pub read_done : {b b' : List ℕ} {r : Step} {at n j : ℕ} {o' : List ℕ} → Gives (value level_limit) encode s 0 0 b b' r → r ≡ Done at n → Skips s at j
-      → length s ≤ j → length b ≡ 257 → n ≤ 256 → o' ≡ take n b' ++ drop n o → Makes (from_json s (length o)) (Gave n) o o'
+  pub read_done : {b b' : List ℕ} {r : Answer} {at n j : ℕ} {o' : List ℕ} → Gives (value level_limit) encode s 0 0 b b' r → r ≡ done at n → Skips s at j
+      → length s ≤ j → length b ≡ 257 → n ≤ 256 → o' ≡ take n b' ++ drop n o → Makes (from_json s (length o)) (Ok n) o o'
   unfolding and_then unless map_result
   read_done {b} {b'} {at} {n} {o'} g e q l m k d = go (rw e at g)
     where
-      go : Gives (value level_limit) encode s 0 0 b b' (Done at n) → Makes (from_json s (length o)) (Gave n) o o'
+      go : Gives (value level_limit) encode s 0 0 b b' (done at n) → Makes (from_json s (length o)) (Ok n) o o'
       go (g_done v w t) =
           let z = size-encode v in
           let f = wrote_front w (omega (arith, w.end)) in
@@ -106,26 +88,26 @@ module _ (s o : List ℕ) (h : value_room ≤ length o) where
           (d ∙ ap (λ (l : List ℕ). l ++ drop n o) (front_read f))
 
 -- what is asked for the copy: a value that was read has as many bytes as it says
-pub read_at : {s b b' : List ℕ} {r : Step} {at n : ℕ} → Gives (value level_limit) encode s 0 0 b b' r → r ≡ Done at n → (at ≤ length s) × (n ≤ length b')
+pub read_at : {s b b' : List ℕ} {r : Answer} {at n : ℕ} → Gives (value level_limit) encode s 0 0 b b' r → r ≡ done at n → (at ≤ length s) × (n ≤ length b')
 read_at {s} {b} {b'} {at} {n} g e = go (rw e at g)
   where
-    go : Gives (value level_limit) encode s 0 0 b b' (Done at n) → (at ≤ length s) × (n ≤ length b')
+    go : Gives (value level_limit) encode s 0 0 b b' (done at n) → (at ≤ length s) × (n ≤ length b')
     go (g_done v w t) = (t.inside, w.inside)
 
 -- WRITING
 
-pub write_short : (v o : List ℕ) → length o < json_room → Makes (to_json v (length o)) (Denied 1) o o
+pub write_short : (v o : List ℕ) → length o < json_room → Makes (to_json v (length o)) (Err OutputSmall) o o
 unfolding to_json unless
-write_short v o h = makes_no 1 (rw (lt-leb json_room (length o) h))
+write_short v o h = makes_no OutputSmall (rw (lt-leb json_room (length o) h))
 
 module _ (v o : List ℕ) (h : json_room ≤ length o) where
   as_written : to_json v (length o) ≡ and_then (read_view v) λ vs. write_json (get_or vs 0 vfalse)
   unfolding to_json unless
   as_written = rw (le-leb json_room (length o) h)
 
-  pub write_malformed : {c : ℕ} → c ≡ view_code v → (c ≡ 0 → ⊥) → Makes (to_json v (length o)) (Denied c) o o
+  pub write_malformed : {e : Refusal} → refusal (number_of e) ≡ view_of v → Makes (to_json v (length o)) (Err e) o o
   unfolding and_then
-  write_malformed {c} e n = makes_no c (as_written ∙ rw (view_refusal v (λ z. n (e ∙ z)), e))
+  write_malformed {e} q = makes_no e (as_written ∙ rw (view_refusal v q))
 
 -- the value that the bytes are
 pub record Whole (v : List ℕ) : Type 0 where
@@ -134,10 +116,10 @@ pub record Whole (v : List ℕ) : Type 0 where
   pub readable : Readable x
   pub held : Held v 0 x []
 
-pub is_whole : (v : List ℕ) {c : ℕ} → c ≡ view_code v → c ≡ 0 → Whole v
+pub is_whole : (v : List ℕ) → ok tt ≡ view_of v → Whole v
 unfolding flat
-is_whole v e z =
-    let (x, f) = view_ok v (sym e ∙ z) in
+is_whole v e =
+    let (x, f) = view_ok v e in
     let r = read_values_sound 30 1 v f in
     record { x = x; view = f; readable = head r.readable; held = record { bytes = r.bytes } }
   where
@@ -147,30 +129,30 @@ is_whole v e z =
 pub whole_holds : {v : List ℕ} → Whole v → Holds v 0
 whole_holds w = record { x = w.x; more = []; held = w.held }
 
-module _ {v : List ℕ} (w : Whole v) {b b' : List ℕ} {r : Step} (p : Writes v 0 level_limit 0 b b' r) where
+module _ {v : List ℕ} (w : Whole v) {b b' : List ℕ} {r : Answer} (p : Writes v 0 level_limit 0 b b' r) where
   its_text : Puts (json_of w.x) (depth w.x) level_limit (0 + size w.x) 0 b b' r
   its_text = p.puts w.x [] w.held
 
   -- as many bytes as were written may be copied
-  pub write_asks : length b ≡ json_room → {n m : ℕ} → r ≡ Done n m → (m ≤ length b') × (m ≤ json_room)
+  pub write_asks : length b ≡ json_room → {n m : ℕ} → r ≡ done n m → (m ≤ length b') × (m ≤ json_room)
   write_asks l {n} {m} e = go (rw e at its_text)
     where
-      go : Puts (json_of w.x) (depth w.x) level_limit (0 + size w.x) 0 b b' (Done n m) → (m ≤ length b') × (m ≤ json_room)
+      go : Puts (json_of w.x) (depth w.x) level_limit (0 + size w.x) 0 b b' (done n m) → (m ≤ length b') × (m ≤ json_room)
       go (p_done f d q) = (q.inside, omega (arith, q.end))
 
   module _ (o : List ℕ) (h : json_room ≤ length o) where
-    pub write_deep : {c : ℕ} → r ≡ Refused c → Makes (to_json v (length o)) (Denied c) o o
+    pub write_deep : {c : Refusal} → r ≡ Err c → Makes (to_json v (length o)) (Err c) o o
     unfolding and_then write_json unless
     write_deep {c} e = go (rw e at its_text)
       where
-        go : Puts (json_of w.x) (depth w.x) level_limit (0 + size w.x) 0 b b' (Refused c) → Makes (to_json v (length o)) (Denied c) o o
+        go : Puts (json_of w.x) (depth w.x) level_limit (0 + size w.x) 0 b b' (Err c) → Makes (to_json v (length o)) (Err c) o o
         go (p_deep f d l) = makes_no c (as_written v o h ∙ rw (w.view, lt-leb (depth w.x) level_limit d, f))
 
-    pub write_done : length b ≡ json_room → {n m : ℕ} → r ≡ Done n m → {o' : List ℕ} → o' ≡ take m b' ++ drop m o → Makes (to_json v (length o)) (Gave m) o o'
+    pub write_done : length b ≡ json_room → {n m : ℕ} → r ≡ done n m → {o' : List ℕ} → o' ≡ take m b' ++ drop m o → Makes (to_json v (length o)) (Ok m) o o'
     unfolding and_then write_json unless
     write_done l {n} {m} e {o'} d = go (rw e at its_text)
       where
-        go : Puts (json_of w.x) (depth w.x) level_limit (0 + size w.x) 0 b b' (Done n m) → Makes (to_json v (length o)) (Gave m) o o'
+        go : Puts (json_of w.x) (depth w.x) level_limit (0 + size w.x) 0 b b' (done n m) → Makes (to_json v (length o)) (Ok m) o o'
         go (p_done f k q) =
             let y = wrote_front q (omega (arith, json_short w.readable)) in
             makes_ok (json_of w.x) (as_written v o h ∙ rw (w.view, le-leb (depth w.x) level_limit k)) y.long

@@ -10,22 +10,24 @@ use Rattle.value.proofs.Encoding.{size-encode, size_pos}
 use Rattle.report.specs.Text.{decimal_of}
 use Rattle.report.specs.Writing.{Wrote, wrote_long, wrote_text}
 use Rattle.notation.specs.Text.{json_of, depth, depths}
-use Rattle.json_codec.specs.declared.Step.{Step}
-use Rattle.json_codec.specs.declared.Step.TheVariants.{Done, Refused}
+use Rattle.std.specs.Prelude.{Err}
+use Rattle.refusal.specs.declared.Refusal.{Refusal}
+use Rattle.refusal.specs.declared.Refusal.TheVariants.{JsonDepth}
+use Rattle.json_codec.specs.Steps.{Answer, done}
 
 -- a text was written at place i, and `end` is the place behind the bytes that it was written from; or arrays and objects nest deeper than may be
-pub data Puts (text : List ℕ) (deep levels end i : ℕ) (b b' : List ℕ) : Step → Type 0 where
-  p_done : {n p : ℕ} → n ≡ end → deep ≤ levels → Wrote text i b b' p → Puts text deep levels end i b b' (Done n p)
-  p_deep : {c : ℕ} → c ≡ 71 → levels < deep → length b' ≡ length b → Puts text deep levels end i b b' (Refused c)
+pub data Puts (text : List ℕ) (deep levels end i : ℕ) (b b' : List ℕ) : Answer → Type 0 where
+  p_done : {n p : ℕ} → n ≡ end → deep ≤ levels → Wrote text i b b' p → Puts text deep levels end i b b' (done n p)
+  p_deep : {c : Refusal} → c ≡ JsonDepth → levels < deep → length b' ≡ length b → Puts text deep levels end i b b' (Err c)
 
-pub puts_long : {text : List ℕ} {deep levels end i : ℕ} {b b' : List ℕ} {r : Step} → Puts text deep levels end i b b' r → length b' ≡ length b
+pub puts_long : {text : List ℕ} {deep levels end i : ℕ} {b b' : List ℕ} {r : Answer} → Puts text deep levels end i b b' r → length b' ≡ length b
 puts_long (p_done e h w) = wrote_long w
 puts_long (p_deep e h l) = l
 
-pub puts_end : {text : List ℕ} {deep levels end i : ℕ} {b b' : List ℕ} {r : Step} {n p : ℕ} → Puts text deep levels end i b b' r → r ≡ Done n p → n ≡ end
+pub puts_end : {text : List ℕ} {deep levels end i : ℕ} {b b' : List ℕ} {r : Answer} {n p : ℕ} → Puts text deep levels end i b b' r → r ≡ done n p → n ≡ end
 puts_end {text} {deep} {levels} {end} {i} {b} {b'} {n} {p} q e = go (rw e at q)
   where
-    go : Puts text deep levels end i b b' (Done n p) → n ≡ end
+    go : Puts text deep levels end i b b' (done n p) → n ≡ end
     go (p_done f h w) = f
 
 -- WHAT STANDS IN THE BYTES, with `more` behind it: a value, a list, two values
@@ -63,13 +65,13 @@ pub record HoldsScalar (v : List ℕ) (at : ℕ) : Type 0 where
   pub no_pair : get_or v at 0 ≡ 5 → ⊥
 
 -- whatever stands there, its text was written
-pub record Writes (v : List ℕ) (at levels put : ℕ) (b b' : List ℕ) (r : Step) : Type 0 where
+pub record Writes (v : List ℕ) (at levels put : ℕ) (b b' : List ℕ) (r : Answer) : Type 0 where
   pub puts : (x : Value) (more : List ℕ) → Held v at x more → Puts (json_of x) (depth x) levels (at + size x) put b b' r
 
-pub record WritesList (v : List ℕ) (at levels put : ℕ) (b b' : List ℕ) (r : Step) : Type 0 where
+pub record WritesList (v : List ℕ) (at levels put : ℕ) (b b' : List ℕ) (r : Answer) : Type 0 where
   pub puts : (l : Values) (more : List ℕ) → HeldList v at l more → Puts (json_of (list l)) (depths l) levels (at + sizes l) put b b' r
 
-pub record WritesTwo (v : List ℕ) (at levels put : ℕ) (b b' : List ℕ) (r : Step) : Type 0 where
+pub record WritesTwo (v : List ℕ) (at levels put : ℕ) (b b' : List ℕ) (r : Answer) : Type 0 where
   pub puts : (a c : Value) (more : List ℕ) → HeldTwo v at a c more
       → Puts (json_of (pair a c)) (max (depth a) (depth c)) levels (at + (size a + size c)) put b b' r
 
@@ -135,11 +137,11 @@ module _ {v : List ℕ} {at : ℕ} (q : HoldsScalar v at) where
 
     pub put_wide : (levels put : ℕ) {b b' : List ℕ} {p : ℕ}
         → Wrote (decimal_of (65536 * (256 * get_or v (at + 1) 0 + get_or v (at + 2) 0) + (256 * get_or v (at + 3) 0 + get_or v (at + 4) 0))) put b b' p
-        → Writes v at levels put b b' (Done (at + 5) p)
+        → Writes v at levels put b b' (done (at + 5) p)
     unfolding json_of depth size encode
     put_wide levels put {b} {b'} {p} w = record { puts = λ x more h. let (m, e) = must_be_wide (kind_at h) refl in go x more h m e }
       where
-        go : (x : Value) (more : List ℕ) → Held v at x more → (m : ℕ) → x ≡ wide m → Puts (json_of x) (depth x) levels (at + size x) put b b' (Done (at + 5) p)
+        go : (x : Value) (more : List ℕ) → Held v at x more → (m : ℕ) → x ≡ wide m → Puts (json_of x) (depth x) levels (at + size x) put b b' (done (at + 5) p)
         go x more h m e = rw e (p_done refl zero-le (wrote_text w (ap decimal_of (same (rw e at h)))))
           where
             same : Held v at (wide m) more
@@ -147,26 +149,26 @@ module _ {v : List ℕ} {at : ℕ} (q : HoldsScalar v at) where
             same h = omega (arith, byte_at h 1, byte_at h 2, byte_at h 3, byte_at h 4)
 
 module _ (v : List ℕ) (at levels put : ℕ) {b b' : List ℕ} {p : ℕ} where
-  pub put_false : get_or v at 0 ≡ 0 → Wrote (0x66 ∷ 0x61 ∷ 0x6C ∷ 0x73 ∷ 0x65 ∷ []) put b b' p → Writes v at levels put b b' (Done (at + 1) p)
+  pub put_false : get_or v at 0 ≡ 0 → Wrote (0x66 ∷ 0x61 ∷ 0x6C ∷ 0x73 ∷ 0x65 ∷ []) put b b' p → Writes v at levels put b b' (done (at + 1) p)
   unfolding json_of depth size
   put_false e w = record { puts = λ x more h. go (rw e at (kind_at h)) }
     where
-      go : {x : Value} → Headed x 0 → Puts (json_of x) (depth x) levels (at + size x) put b b' (Done (at + 1) p)
+      go : {x : Value} → Headed x 0 → Puts (json_of x) (depth x) levels (at + size x) put b b' (done (at + 1) p)
       go h_false = p_done refl zero-le w
 
-  pub put_true : get_or v at 0 ≡ 1 → Wrote (0x74 ∷ 0x72 ∷ 0x75 ∷ 0x65 ∷ []) put b b' p → Writes v at levels put b b' (Done (at + 1) p)
+  pub put_true : get_or v at 0 ≡ 1 → Wrote (0x74 ∷ 0x72 ∷ 0x75 ∷ 0x65 ∷ []) put b b' p → Writes v at levels put b b' (done (at + 1) p)
   unfolding json_of depth size
   put_true e w = record { puts = λ x more h. go (rw e at (kind_at h)) }
     where
-      go : {x : Value} → Headed x 1 → Puts (json_of x) (depth x) levels (at + size x) put b b' (Done (at + 1) p)
+      go : {x : Value} → Headed x 1 → Puts (json_of x) (depth x) levels (at + size x) put b b' (done (at + 1) p)
       go h_true = p_done refl zero-le w
 
   pub put_number : get_or v at 0 ≡ 4 → Wrote (decimal_of (256 * get_or v (at + 1) 0 + get_or v (at + 2) 0)) put b b' p →
-      Writes v at levels put b b' (Done (at + 3) p)
+      Writes v at levels put b b' (done (at + 3) p)
   unfolding json_of depth size encode
   put_number e w = record { puts = λ x more h. go h (rw e at (kind_at h)) }
     where
-      go : {x : Value} {more : List ℕ} → Held v at x more → Headed x 4 → Puts (json_of x) (depth x) levels (at + size x) put b b' (Done (at + 3) p)
+      go : {x : Value} {more : List ℕ} → Held v at x more → Headed x 4 → Puts (json_of x) (depth x) levels (at + size x) put b b' (done (at + 3) p)
       go h (h_number {n}) =
           let z : 256 * get_or v (at + 1) 0 + get_or v (at + 2) 0 ≡ n = omega (arith, byte_at h 1, byte_at h 2) in
           p_done refl zero-le (wrote_text w (ap decimal_of z))

@@ -37,8 +37,10 @@ use Rattle.json_codec.specs.Writer.{
   inside,
   behind,
 }
-use Rattle.json_codec.specs.declared.Step.{Step}
-use Rattle.json_codec.specs.declared.Step.TheVariants.{Done, Refused}
+use Rattle.std.specs.Prelude.{Err}
+use Rattle.refusal.specs.declared.Refusal.{Refusal}
+use Rattle.refusal.specs.declared.Refusal.TheVariants.{JsonDepth}
+use Rattle.json_codec.specs.Steps.{Answer, done}
 
 -- BEHIND THE FIRST BYTE
 tail : (v : List ℕ) (at : ℕ) {k : ℕ} {l : List ℕ} → drop at v ≡ k ∷ l → drop (at + 1) v ≡ l
@@ -77,19 +79,19 @@ module _ {v : List ℕ} {at : ℕ} where
         let (l, e) = as_list q.held (kind_at q.held) refl in
         record { l = l; more = q.more; held = list_held (rw e at q.held) }
 
-    pub list_deep : (levels put : ℕ) → levels ≡ 0 → (b : List ℕ) → Writes v at levels put b b (Refused 71)
+    pub list_deep : (levels put : ℕ) → levels ≡ 0 → (b : List ℕ) → Writes v at levels put b b (Err JsonDepth)
     unfolding depth
     list_deep levels put z b = record { puts = λ x more h. let (l, e) = as_list h (kind_at h) refl in go x l e }
       where
-        go : (x : Value) (l : Values) → x ≡ list l → Puts (json_of x) (depth x) levels (at + size x) put b b (Refused 71)
+        go : (x : Value) (l : Values) → x ≡ list l → Puts (json_of x) (depth x) levels (at + size x) put b b (Err JsonDepth)
         go x l e = rw e (p_deep refl (omega arith) refl)
 
-    pub value_list : (levels put : ℕ) → (levels ≡ 0 → ⊥) → {b b' : List ℕ} {r : Step} → WritesList v at (levels - 1) put b b' r → Writes v at levels put b b' r
+    pub value_list : (levels put : ℕ) → (levels ≡ 0 → ⊥) → {b b' : List ℕ} {r : Answer} → WritesList v at (levels - 1) put b b' r → Writes v at levels put b b' r
     unfolding depth size
     value_list levels put z {b} {b'} {r} w =
         record { puts = λ x more h. let (l, e) = as_list h (kind_at h) refl in rw e (go l (w.puts l more (list_held (rw e at h)))) }
       where
-        go : (l : Values) {r : Step} → Puts (json_of (list l)) (depths l) (levels - 1) (at + sizes l) put b b' r
+        go : (l : Values) {r : Answer} → Puts (json_of (list l)) (depths l) (levels - 1) (at + sizes l) put b b' r
             → Puts (json_of (list l)) (depth (list l)) levels (at + size (list l)) put b b' r
         go l (p_done e h q) = p_done e (omega arith) q
         go l (p_deep e h y) = p_deep e (omega arith) y
@@ -106,20 +108,20 @@ module _ {v : List ℕ} {at : ℕ} where
     pub two_there : Holds v at → HoldsTwo v (at + 1)
     two_there q = let (a, b, e) = as_pair (its_kind q.held) in record { a = a; b = b; more = q.more; held = two_held (rw e at q.held) }
 
-    pub pair_deep : (levels put : ℕ) → levels ≡ 0 → (b : List ℕ) → Writes v at levels put b b (Refused 71)
+    pub pair_deep : (levels put : ℕ) → levels ≡ 0 → (b : List ℕ) → Writes v at levels put b b (Err JsonDepth)
     unfolding depth
     pair_deep levels put z b = record { puts = λ x more h. let (a, c, e) = as_pair (its_kind h) in go x a c e }
       where
-        go : (x a c : Value) → x ≡ pair a c → Puts (json_of x) (depth x) levels (at + size x) put b b (Refused 71)
+        go : (x a c : Value) → x ≡ pair a c → Puts (json_of x) (depth x) levels (at + size x) put b b (Err JsonDepth)
         go x a c e = rw e (p_deep refl (omega arith) refl)
 
-    pub value_pair : (levels put : ℕ) → (levels ≡ 0 → ⊥) → {b b' : List ℕ} {r : Step} → WritesTwo v (at + 1) (levels - 1) put b b' r
+    pub value_pair : (levels put : ℕ) → (levels ≡ 0 → ⊥) → {b b' : List ℕ} {r : Answer} → WritesTwo v (at + 1) (levels - 1) put b b' r
         → Writes v at levels put b b' r
     unfolding depth size
     value_pair levels put z {b} {b'} {r} w =
         record { puts = λ x more h. let (a, c, e) = as_pair (its_kind h) in rw e (go a c (w.puts a c more (two_held (rw e at h)))) }
       where
-        go : (a c : Value) {r : Step} → Puts (json_of (pair a c)) (max (depth a) (depth c)) (levels - 1) (at + 1 + (size a + size c)) put b b' r
+        go : (a c : Value) {r : Answer} → Puts (json_of (pair a c)) (max (depth a) (depth c)) (levels - 1) (at + 1 + (size a + size c)) put b b' r
             → Puts (json_of (pair a c)) (depth (pair a c)) levels (at + size (pair a c)) put b b' r
         go a c (p_done e h q) = p_done (e ∙ omega arith) (omega arith) q
         go a c (p_deep e h y) = p_deep e (omega arith) y
@@ -183,11 +185,11 @@ pub record Turned (v : List ℕ) (at levels put : ℕ) (b₀ : List ℕ) (l : Va
 module _ {v : List ℕ} {at : ℕ} (levels put : ℕ) where
   -- the empty list
   pub array_none : get_or v at 0 ≡ 2 → {b b₁ b₂ : List ℕ} {p q : ℕ} → Wrote (0x5B ∷ []) put b b₁ p → Wrote (0x5D ∷ []) p b₁ b₂ q
-      → WritesList v at levels put b b₂ (Done (at + 1) q)
+      → WritesList v at levels put b b₂ (done (at + 1) q)
   unfolding json_of members_of depths sizes
   array_none k {b} {b₂} {q} w y = record { puts = λ l more h. go (rw k at (list_kind h)) }
     where
-      go : {l : Values} → HeadedList l 2 → Puts (json_of (list l)) (depths l) levels (at + sizes l) put b b₂ (Done (at + 1) q)
+      go : {l : Values} → HeadedList l 2 → Puts (json_of (list l)) (depths l) levels (at + sizes l) put b b₂ (done (at + 1) q)
       go l_nil = p_done refl zero-le (wrote_then w y)
 
   -- the first member
@@ -224,21 +226,21 @@ module _ {v : List ℕ} {at levels put : ℕ} {b₀ : List ℕ} {l : Values} {mo
   pub member_there : i < length v
   member_there = list_begins t.held
 
-  pub member_end : {b' : List ℕ} {r : Step} {n q : ℕ} → Writes v (i + 1) levels p b b' r → r ≡ Done n q → i < n
+  pub member_end : {b' : List ℕ} {r : Answer} {n q : ℕ} → Writes v (i + 1) levels p b b' r → r ≡ done n q → i < n
   member_end w e = omega (arith, puts_end (w.puts t.x (encodes t.m ++ more) member_held) e)
 
-  pub member_deep : {b' : List ℕ} {r : Step} {c : ℕ} → Writes v (i + 1) levels p b b' r → r ≡ Refused c
-      → Puts (json_of (list l)) (depths l) levels (at + sizes l) put b₀ b' (Refused c)
+  pub member_deep : {b' : List ℕ} {r : Answer} {c : Refusal} → Writes v (i + 1) levels p b b' r → r ≡ Err c
+      → Puts (json_of (list l)) (depths l) levels (at + sizes l) put b₀ b' (Err c)
   member_deep {b'} {r} {c} w e = go (rw e at (w.puts t.x (encodes t.m ++ more) member_held))
     where
-      go : Puts (json_of t.x) (depth t.x) levels (i + 1 + size t.x) p b b' (Refused c)
-          → Puts (json_of (list l)) (depths l) levels (at + sizes l) put b₀ b' (Refused c)
+      go : Puts (json_of t.x) (depth t.x) levels (i + 1 + size t.x) p b b' (Err c)
+          → Puts (json_of (list l)) (depths l) levels (at + sizes l) put b₀ b' (Err c)
       go (p_deep e h y) = p_deep e (omega (arith, t.deep)) (y ∙ wrote_long t.wrote)
 
-  pub member_done : {b' : List ℕ} {r : Step} {n q : ℕ} → Writes v (i + 1) levels p b b' r → r ≡ Done n q → Turned v at levels put b₀ l more n b' q
+  pub member_done : {b' : List ℕ} {r : Answer} {n q : ℕ} → Writes v (i + 1) levels p b b' r → r ≡ done n q → Turned v at levels put b₀ l more n b' q
   member_done {b'} {r} {n} {q} w e = go (rw e at (w.puts t.x (encodes t.m ++ more) member_held))
     where
-      go : Puts (json_of t.x) (depth t.x) levels (i + 1 + size t.x) p b b' (Done n q) → Turned v at levels put b₀ l more n b' q
+      go : Puts (json_of t.x) (depth t.x) levels (i + 1 + size t.x) p b b' (done n q) → Turned v at levels put b₀ l more n b' q
       go (p_done f h y) = record {
         m = t.m;
         held = record { bytes = ap (λ (k : ℕ). drop k v) f ∙ behind member_held };
@@ -258,12 +260,12 @@ module _ {v : List ℕ} {at levels put : ℕ} {b₀ : List ℕ} {l : Values} {mo
   rest_there = list_begins t.held
 
   pub list_closed : get_or v i 0 ≡ 2 → {b' : List ℕ} {q : ℕ} → Wrote (0x5D ∷ []) p b b' q
-      → Puts (json_of (list l)) (depths l) levels (at + sizes l) put b₀ b' (Done (i + 1) q)
+      → Puts (json_of (list l)) (depths l) levels (at + sizes l) put b₀ b' (done (i + 1) q)
   unfolding more_of depths sizes
   list_closed k {b'} {q} w = go t.m (rw k at (list_kind t.held)) t.deep t.end t.whole
     where
       go : (m : Values) → HeadedList m 2 → depths l ≡ max t.done (depths m) → at + sizes l ≡ i + sizes m → json_of (list l) ≡ t.text ++ more_of m
-          → Puts (json_of (list l)) (depths l) levels (at + sizes l) put b₀ b' (Done (i + 1) q)
+          → Puts (json_of (list l)) (depths l) levels (at + sizes l) put b₀ b' (done (i + 1) q)
       go m l_nil d e f = p_done (sym e) (omega (arith, t.within)) (wrote_text (wrote_then t.wrote w) (sym f))
 
   pub list_goes_on : (get_or v i 0 ≡ 2 → ⊥) → {b' : List ℕ} {q : ℕ} → Wrote (0x2C ∷ []) p b b' q → Turning v at levels put b₀ l more i b' q
@@ -306,15 +308,15 @@ module _ {v : List ℕ} {at : ℕ} where
   pub first_holds : HoldsTwo v at → Holds v at
   first_holds q = record { x = q.a; more = encode q.b ++ q.more; held = first_held q.held }
 
-  module _ {levels put : ℕ} {b b₁ b₂ : List ℕ} {p : ℕ} {r : Step} (w : Wrote pair_open put b b₁ p) (f : Writes v at levels p b₁ b₂ r) where
-    pub first_deep : {c : ℕ} → r ≡ Refused c → WritesTwo v at levels put b b₂ (Refused c)
+  module _ {levels put : ℕ} {b b₁ b₂ : List ℕ} {p : ℕ} {r : Answer} (w : Wrote pair_open put b b₁ p) (f : Writes v at levels p b₁ b₂ r) where
+    pub first_deep : {c : Refusal} → r ≡ Err c → WritesTwo v at levels put b b₂ (Err c)
     first_deep {c} e = record { puts = λ a d more h. go a d (rw e at (f.puts a (encode d ++ more) (first_held h))) }
       where
-        go : (a d : Value) → Puts (json_of a) (depth a) levels (at + size a) p b₁ b₂ (Refused c)
-            → Puts (json_of (pair a d)) (max (depth a) (depth d)) levels (at + (size a + size d)) put b b₂ (Refused c)
+        go : (a d : Value) → Puts (json_of a) (depth a) levels (at + size a) p b₁ b₂ (Err c)
+            → Puts (json_of (pair a d)) (max (depth a) (depth d)) levels (at + (size a + size d)) put b b₂ (Err c)
         go a d (p_deep e h y) = p_deep e (omega arith) (y ∙ wrote_long w)
 
-    module _ {i q : ℕ} (e : r ≡ Done i q) where
+    module _ {i q : ℕ} (e : r ≡ done i q) where
       first_end : {a c : Value} {more : List ℕ} → HeldTwo v at a c more → i ≡ at + size a
       first_end {a} {c} {more} h = puts_end (f.puts a (encode c ++ more) (first_held h)) e
 
@@ -324,33 +326,33 @@ module _ {v : List ℕ} {at : ℕ} where
         record { x = k.b; more = k.more; held = second_held k.held (first_end k.held) },
       )
 
-      module _ {b₃ b₄ : List ℕ} {t : ℕ} {u : Step} (y : Wrote pair_between q b₂ b₃ t) (g : Writes v i levels t b₃ b₄ u) where
-        pub second_deep : {c : ℕ} → u ≡ Refused c → WritesTwo v at levels put b b₄ (Refused c)
+      module _ {b₃ b₄ : List ℕ} {t : ℕ} {u : Answer} (y : Wrote pair_between q b₂ b₃ t) (g : Writes v i levels t b₃ b₄ u) where
+        pub second_deep : {c : Refusal} → u ≡ Err c → WritesTwo v at levels put b b₄ (Err c)
         second_deep {c} z = record {
           puts = λ a d more h. go a d (puts_long (f.puts a (encode d ++ more) (first_held h))) (rw z at (g.puts d more (second_held h (first_end h))));
         }
           where
-            go : (a d : Value) → length b₂ ≡ length b₁ → Puts (json_of d) (depth d) levels (i + size d) t b₃ b₄ (Refused c)
-                → Puts (json_of (pair a d)) (max (depth a) (depth d)) levels (at + (size a + size d)) put b b₄ (Refused c)
+            go : (a d : Value) → length b₂ ≡ length b₁ → Puts (json_of d) (depth d) levels (i + size d) t b₃ b₄ (Err c)
+                → Puts (json_of (pair a d)) (max (depth a) (depth d)) levels (at + (size a + size d)) put b b₄ (Err c)
             go a d k (p_deep e h l) = p_deep e (omega arith) (l ∙ wrote_long y ∙ k ∙ wrote_long w)
 
-        pub pair_done : {j n : ℕ} → u ≡ Done j n → {b₅ : List ℕ} {m : ℕ} → Wrote (0x7D ∷ []) n b₄ b₅ m → WritesTwo v at levels put b b₅ (Done j m)
+        pub pair_done : {j n : ℕ} → u ≡ done j n → {b₅ : List ℕ} {m : ℕ} → Wrote (0x7D ∷ []) n b₄ b₅ m → WritesTwo v at levels put b b₅ (done j m)
         unfolding json_of
         pair_done {j} {n} z {b₅} {m} x = record {
           puts = λ a d more h. go a d (rw e at (f.puts a (encode d ++ more) (first_held h))) (rw z at (g.puts d more (second_held h (first_end h))));
         }
           where
-            go : (a d : Value) → Puts (json_of a) (depth a) levels (at + size a) p b₁ b₂ (Done i q)
-                → Puts (json_of d) (depth d) levels (i + size d) t b₃ b₄ (Done j n)
-                → Puts (json_of (pair a d)) (max (depth a) (depth d)) levels (at + (size a + size d)) put b b₅ (Done j m)
+            go : (a d : Value) → Puts (json_of a) (depth a) levels (at + size a) p b₁ b₂ (done i q)
+                → Puts (json_of d) (depth d) levels (i + size d) t b₃ b₄ (done j n)
+                → Puts (json_of (pair a d)) (max (depth a) (depth d)) levels (at + (size a + size d)) put b b₅ (done j m)
             go a d (p_done k l s) (p_done k' l' s') = p_done {n = j} (omega arith) (omega arith) (wrote_then w (wrote_then s (wrote_then y (wrote_then s' x))))
 
 -- the buffer keeps its length
-pub writes_long : {v : List ℕ} {at levels put : ℕ} {b b' : List ℕ} {r : Step} → Holds v at → Writes v at levels put b b' r → length b' ≡ length b
+pub writes_long : {v : List ℕ} {at levels put : ℕ} {b b' : List ℕ} {r : Answer} → Holds v at → Writes v at levels put b b' r → length b' ≡ length b
 writes_long q w = puts_long (w.puts q.x q.more q.held)
 
-pub writes_list_long : {v : List ℕ} {at levels put : ℕ} {b b' : List ℕ} {r : Step} → HoldsList v at → WritesList v at levels put b b' r → length b' ≡ length b
+pub writes_list_long : {v : List ℕ} {at levels put : ℕ} {b b' : List ℕ} {r : Answer} → HoldsList v at → WritesList v at levels put b b' r → length b' ≡ length b
 writes_list_long q w = puts_long (w.puts q.l q.more q.held)
 
-pub writes_two_long : {v : List ℕ} {at levels put : ℕ} {b b' : List ℕ} {r : Step} → HoldsTwo v at → WritesTwo v at levels put b b' r → length b' ≡ length b
+pub writes_two_long : {v : List ℕ} {at levels put : ℕ} {b b' : List ℕ} {r : Answer} → HoldsTwo v at → WritesTwo v at levels put b b' r → length b' ≡ length b
 writes_two_long q w = puts_long (w.puts q.a q.b q.more q.held)

@@ -13,7 +13,7 @@ use Rattle.calls.specs.declared.PutReply.{PutReply}
 use Rattle.calls.specs.Calls.{reply, written, cleared, new_starts, new_written, PutAnswered}
 use Rattle.calls.specs.Small.{Small, small_put}
 use Rattle.packing.specs.Numbers.{Packs}
-use Rattle.packing.specs.HandedOut.{handed}
+use Rattle.packing.specs.HandedOut.{handed, handed_over, handed_front}
 use Rattle.lens.specs.Packing.{packed, unpacked, count_of, refusal_of, ReplyPacked, packed_back, packed_counted}
 
 -- the starts at the front of the caller's numbers t; those behind them do not change, and where there is no start none does
@@ -48,10 +48,11 @@ pub record PackedLoad (l : Loaded) (r : ℕ) (t t' : List ℕ) : Type 0 where
 -- WHAT SHOWS IT
 
 -- where there is room for all starts
-pub starts_handed : (s : Starts) (t : List ℕ) {t' : List ℕ} → t' ≡ handed (min s.count (min 16 (length t))) s.at t → s.count ≤ 16
-    → s.count ≤ length t → t' ≡ handed_out s t
+pub starts_handed : (s : Starts) (t : List ℕ) {n : ℕ} {t' : List ℕ} → t' ≡ handed_over (min n (min (length s.at) (length t))) s.at t
+    → n ≡ s.count → length s.at ≡ 16 → s.count ≤ 16 → s.count ≤ length t → t' ≡ handed_out s t
 unfolding handed handed_out
-starts_handed s t e few room = let m : min s.count (min 16 (length t)) ≡ s.count = omega arith in rw m at e
+starts_handed s t {n} e count places few room =
+    let m : min n (min (length s.at) (length t)) ≡ s.count = omega arith in (rw m at e) ∙ handed_front s.count s.at t (omega arith)
 
 -- what was loaded, with its count
 pub few_loaded : (sheet plan : List ℕ) {l : Loaded} → l ≡ load_of sheet plan → l.starts.count ≤ 16

@@ -3,17 +3,14 @@ use Rattle.std.specs.Prelude.{◌≡◌, refl, Bool, List, ℕ, ◌≤◌, ◌<�
 use Rattle.std.proofs.Common.{sym, ◌∙◌, arith}
 use Rattle.value.specs.Result.{Result, ok}
 use Rattle.made.specs.declared.Made.{Made}
-use Rattle.made.specs.declared.Made.TheVariants as Made
 use Rattle.made.specs.Made.{made, written, Makes, code_of as made_code, length_of, done_front}
 use Rattle.accepts.specs.declared.Verdict.{Verdict as Judgement}
 use Rattle.accepts.specs.Accepts.{verdict, cleared, Accepted, code_of as verdict_code, yes_of}
 use Rattle.typing.specs.Check.{Verdict}
 use Rattle.types.specs.declared.Checked.{Checked}
-use Rattle.types.specs.declared.Checked.TheVariants as Checked
 use Rattle.types.specs.Checked.{checked, code_of as check_code, node_told}
 use Rattle.growth.specs.declared.Growing.{Growing}
 use Rattle.growth.specs.declared.Growing.TheVariants.{Times}
-use Rattle.growth.specs.declared.Growing.TheVariants as Growing
 use Rattle.growth.specs.Tool.{told, code_of as growing_code, times_of}
 use Rattle.preorder.specs.NumberAnswer.{Answer}
 use Rattle.numbering.specs.declared.Numbered.{Numbered}

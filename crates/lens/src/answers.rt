@@ -8,7 +8,7 @@ ghost use Rattle.lens.specs.Packing.{unpacked, Packed, ReplyPacked};
 ghost use Rattle.lens.specs.HandedOut.{written_or, PackedPut};
 
 use calls::{Reply, get, put};
-use packing::{hand_bits, hand_out};
+use packing::{hand, hand_bits};
 
 // A reply, and how many starts are told with it.
 fn pack(reply: Reply, count: u8) -> u64
@@ -75,7 +75,7 @@ pub extern "C" fn lens_put_starts(
     let answer = put(sheet, plan, view, allowance, out, scratch);
     let reply = answer.reply;
     let given = answer.starts;
-    hand_out(given, starts);
+    hand(&given.at, usize::from(given.count), starts);
     pack(reply, given.count)
 }
 
@@ -102,7 +102,7 @@ pub extern "C" fn lens_put_written(
     let answer = put(sheet, plan, view, allowance, out, scratch);
     let reply = answer.reply;
     let given = answer.starts;
-    hand_out(given, starts);
+    hand(&given.at, usize::from(given.count), starts);
     let packed = pack(reply, given.count);
     hand_bits(packed, answer.written, written);
     packed

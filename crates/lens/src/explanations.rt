@@ -5,14 +5,13 @@ ghost use Rattle.packing.specs.Numbers.{WhyPacked};
 ghost use Rattle.lens.specs.Explanations.{nodes_over, WhyHanded};
 
 use explaining::{Explanation, why_get, why_put};
-use packing::{hand_nodes, pack_why};
+use packing::{hand, pack_why};
 
 // An explanation: in one number, and its nodes at the front of the caller's bytes.
 fn hand_why(why: Explanation, chain: &mut [u8]) -> u64
     ensures { WhyPacked why.refusal why.depth why.first result × (chain.new ≡ nodes_over why chain.old) }
 {
-    let nodes = why.chain;
-    hand_nodes(&nodes, why.depth, chain);
+    hand(&why.chain, usize::from(why.depth), chain);
     pack_why(why.refusal, why.depth, why.first)
 }
 

@@ -3,7 +3,7 @@ ghost use Rattle.lens.specs.HandedOut.{PackedLoad};
 ghost use Rattle.packing.specs.HandedOut.{Lookup};
 ghost use Rattle.starts.specs.Starts.{load_of, find_of};
 
-use packing::{hand_found, hand_out, pack};
+use packing::{hand, hand_found, pack};
 use starts::Starts;
 
 /// `starts::load` for C: the starts at the front of `starts`, and how many there are in the answer.
@@ -13,7 +13,7 @@ pub extern "C" fn lens_load(sheet: &[u8], plan: &[u8], starts: &mut [u16; 16]) -
 {
     let loaded = starts::load(sheet, plan);
     let given = loaded.starts;
-    hand_out(given, starts);
+    hand(&given.at, usize::from(given.count), starts);
     pack(loaded.refusal, 0, given.count, 0)
 }
 
@@ -33,10 +33,9 @@ pub extern "C" fn lens_find(
     if 16 < count {
         return 24;
     }
-    let at = *starts;
     let kept = Starts {
         count: count as u8,
-        at,
+        at: *starts,
     };
     hand_found(starts::find(kept, len, variable), start, end)
 }

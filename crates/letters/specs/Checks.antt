@@ -11,7 +11,7 @@ use Rattle.report.proofs.TextLaws.{ok_length}
 use Rattle.words.specs.Numbers.{line_limit}
 use Rattle.inputs.specs.Format.{two, part}
 use Rattle.words.specs.Answers.{node_line}
-use Rattle.typing.specs.Check.{Verdict, passes, refused, refused_at, lent_of, check}
+use Rattle.typing.specs.Check.{Verdict, passes, refused, refused_at, check}
 use Rattle.typing.proofs.CheckLaws.{Says, all_right, used_twice, not_right}
 use Rattle.typing.proofs.Calls.{Judges, no_sheet, no_types, judged, check_judges}
 use Rattle.types.specs.declared.Checked.{Checked}

@@ -1,6 +1,6 @@
 -- How often a variable's length counts in the list's (letter R of `tools`).
 use Rattle.std.proofs.Math.Path.{◌≡◌, refl, sym, ap}
-use Rattle.std.proofs.Common.{ap₂, ◌∙◌, arith, le-leb, length-append}
+use Rattle.std.proofs.Common.{◌∙◌, arith, le-leb, length-append}
 use Rattle.std.specs.Prelude.{Bool, true, false, cond, List, [], ◌∷◌, ℕ, ◌≤◌, ◌<◌, leb, length, get_or, drop}
 use Rattle.std.proofs.lemmas.Bool.{lt-leb}
 use Rattle.value.specs.Result.{Result, ok, refusal}

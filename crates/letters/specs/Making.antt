@@ -1,5 +1,5 @@
 -- The line of what a tool made (crate `made`): its bytes in hexadecimal, or as they stand; or a refusal.
-use Rattle.std.specs.Prelude.{◌≡◌, refl, Bool, true, false, cond, List, [], ◌∷◌, ℕ, ◌*◌, ◌≤◌, ◌<◌, length, take}
+use Rattle.std.specs.Prelude.{◌≡◌, refl, Bool, true, false, List, [], ◌∷◌, ℕ, ◌*◌, ◌≤◌, ◌<◌, length, take}
 use Rattle.std.proofs.Common.{sym, ap, ◌∙◌, arith, length-append}
 use Rattle.value.specs.Result.{Result, ok, refusal}
 use Rattle.report.specs.Text.{hex_of, words, refusal_line, ok_line}
@@ -7,7 +7,7 @@ use Rattle.report.proofs.TextLaws.{hex_length, ok_length}
 use Rattle.words.specs.Numbers.{line_limit}
 use Rattle.made.specs.declared.Made.{Made}
 use Rattle.made.specs.declared.Made.TheVariants.{Done, Refused}
-use Rattle.made.specs.Made.{made, written, Makes, done_front, refused_is}
+use Rattle.made.specs.Made.{Makes, done_front, refused_is}
 use Rattle.letters.specs.LookupLaws.{fits_refusal}
 
 -- bytes as a word: in hexadecimal, or as the text that they are

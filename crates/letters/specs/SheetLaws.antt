@@ -1,10 +1,10 @@
 -- Laws of the lines of letters N and J: how long they are, and what shows them of the code.
-use Rattle.std.specs.Prelude.{◌≡◌, refl, Bool, true, false, cond, List, [], ◌∷◌, ◌++◌, ℕ, ◌+◌, ◌≤◌, ◌<◌, leb, ltb, length, take, drop}
+use Rattle.std.specs.Prelude.{◌≡◌, refl, Bool, true, false, cond, List, [], ◌∷◌, ℕ, ◌+◌, ◌≤◌, ◌<◌, leb, ltb, length, take, drop}
 use Rattle.std.proofs.Math.Path.{sym, ap₂}
 use Rattle.std.proofs.Common.{ap, ◌∙◌, arith, length-append}
 use borrow.Author.Tests.{le-leb, lt-leb}
 use Rattle.std.proofs.Math.Seq.{take-append_seam}
-use Rattle.report.specs.Text.{hex_of, words, decimal_of, refusal_line, ok_line}
+use Rattle.report.specs.Text.{hex_of, words, refusal_line, ok_line}
 use Rattle.report.proofs.TextLaws.{hex_length, ok_length, decimal_length}
 use Rattle.inputs.specs.Format.{two, part}
 use Rattle.words.specs.Answers.{no_line, node_line}
@@ -17,7 +17,6 @@ use Rattle.preorder.specs.Numbering.{numbered}
 use Rattle.preorder.specs.Uses.{lowest_twice}
 use Rattle.preorder.specs.NumberAnswer.{Answer, done, refused, twice, sheet_answer, number_answer}
 use Rattle.preorder.proofs.NumberingCalls.{numbered_told, numbered_short}
-use Rattle.preorder.specs.UsedTwice.{UsedTwice}
 use Rattle.preorder.proofs.UsedTwice.{twice_told}
 use Rattle.numbering.specs.declared.Numbered.{Numbered}
 use Rattle.numbering.specs.declared.Numbered.TheVariants.{Done, Refused, Twice}

@@ -4,7 +4,7 @@ use Rattle.std.proofs.Common.{arith}
 use Rattle.value.specs.Result.{Result, ok, refusal, and_then, map_result, unless}
 use Rattle.value.specs.Value.{Value}
 use Rattle.value.specs.Reading.{Found, whole, malformed, too_long, nothing, a_value, value, read_value, on_value, read_values, read_plan, read_view}
-use Rattle.sheet.specs.Sheet.{Sheet, read_sheet}
+use Rattle.sheet.specs.Sheet.{read_sheet}
 use Rattle.letters.specs.LoadLaws.{sheet_small}
 
 pub data Small {A : Type 0} : Result A → Type 0 where

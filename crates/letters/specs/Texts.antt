@@ -1,13 +1,13 @@
 -- A value as JSON (letter D of `tools`), and JSON as a value (letter E).
-use Rattle.std.specs.Prelude.{◌≡◌, refl, List, ℕ, ◌≤◌, ◌<◌, length, drop}
-use Rattle.std.proofs.Common.{sym, ap, ◌∙◌, arith}
+use Rattle.std.specs.Prelude.{◌≡◌, List, ℕ, ◌≤◌, length, drop}
+use Rattle.std.proofs.Common.{arith}
 use Rattle.std.proofs.Math.Path.{ap₂}
 use Rattle.std.proofs.Math.Bool.{true, false}
-use Rattle.value.specs.Result.{Result, ok}
+use Rattle.value.specs.Result.{Result}
 use Rattle.words.specs.Numbers.{line_limit}
 use Rattle.notation.specs.Calls.{json_room, value_room, to_json, from_json}
 use Rattle.notation.specs.Text.{level_limit, write_json}
-use Rattle.notation.specs.Grammar.{value, finished, run, read_json}
+use Rattle.notation.specs.Grammar.{value, finished, read_json}
 use Rattle.notation.proofs.Laws.{to_short, from_short}
 use Rattle.notation.specs.Numbers.{Told, read, malformed, deep}
 use Rattle.notation.proofs.Numbers.{told}

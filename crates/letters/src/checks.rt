@@ -18,7 +18,7 @@ pub fn types_line(input: &[u8], text: &mut [u8]) -> usize
     );
     match answer {
         Checked::Passes => report::bytes(text, 0, b"ok\n"),
-        Checked::Refused(c) => report::refusal(text, 0, c as usize),
+        Checked::Refused(c) => report::refusal(text, 0, usize::from(c)),
         Checked::At { refusal, node } => words::node_line(text, refusal, node),
     }
 }

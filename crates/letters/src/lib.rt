@@ -22,16 +22,16 @@ pub fn line(input: &[u8], text: &mut [u8]) -> usize
 {
     let letter = inputs::byte_at(input, 0);
     match letter {
-        0x4C => lookups::load_line(input, text),
-        0x56 => lookups::value_line(input, text),
-        0x4E => sheets::number_line(input, text),
-        0x4A => sheets::join_line(input, text),
-        0x52 => growths::growth_line(input, text),
-        0x44 => texts::text_line(input, text),
-        0x45 => texts::parsed_line(input, text),
-        0x54 => checks::types_line(input, text),
-        0x41 => sheet_texts::read_line(input, text),
-        0x55 => sheet_texts::print_line(input, text),
+        b'L' => lookups::load_line(input, text),
+        b'V' => lookups::value_line(input, text),
+        b'N' => sheets::number_line(input, text),
+        b'J' => sheets::join_line(input, text),
+        b'R' => growths::growth_line(input, text),
+        b'D' => texts::text_line(input, text),
+        b'E' => texts::parsed_line(input, text),
+        b'T' => checks::types_line(input, text),
+        b'A' => sheet_texts::read_line(input, text),
+        b'U' => sheet_texts::print_line(input, text),
         _ => report::refusal(text, 0, 60),
     }
 }

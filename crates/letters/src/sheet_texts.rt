@@ -4,7 +4,7 @@ ghost use Rattle.report.specs.Writing.{Wrote};
 ghost use Rattle.words.specs.Numbers.{line_limit};
 ghost use Rattle.letters.specs.SheetTexts.{fault_line, read_line, print_line};
 
-use crate::lines::part_line;
+use crate::lines::{Hex, line};
 use crate::sheets::numbered_line;
 use parsing::Reading;
 
@@ -14,9 +14,9 @@ fn fault_line(refusal: u8, place: usize, detail: u8, text: &mut [u8]) -> usize
     ensures detail_len_bound { length (fault_line refusal place detail) ≤ line_limit }
 {
     let mut end = report::bytes(text, 0, b"no");
-    end = report::decimal_word(text, end, refusal as usize);
+    end = report::decimal_word(text, end, usize::from(refusal));
     end = report::decimal_word(text, end, place);
-    end = report::decimal_word(text, end, detail as usize);
+    end = report::decimal_word(text, end, usize::from(detail));
     report::byte(text, end, b'\n')
 }
 
@@ -27,8 +27,13 @@ pub fn read_line(input: &[u8], text: &mut [u8]) -> usize
 {
     let mut sheet = [0u8; parsing::OUTPUT];
     match parsing::read(inputs::rest_from(input, 1), &mut sheet) {
-        Reading::Done(n) => part_line(inputs::part_at(&sheet, 0, n), text),
-        Reading::Refused(c) => report::refusal(text, 0, c as usize),
+        Reading::Done(n) => line(
+            &Hex {
+                bytes: inputs::part_at(&sheet, 0, n),
+            },
+            text,
+        ),
+        Reading::Refused(c) => report::refusal(text, 0, usize::from(c)),
         Reading::At {
             refusal,
             place,

@@ -3,7 +3,7 @@ ghost use Rattle.report.specs.Writing.{Wrote};
 ghost use Rattle.letters.specs.Sheets.{number_line, join_line};
 ghost use Rattle.letters.specs.SheetLaws.{number_reply};
 
-use crate::lines::{made_line, part_line};
+use crate::lines::{Hex, line, made_line};
 use numbering::Numbered;
 
 // The line of what was replied about a sheet: what was made, at the front of its output, in hexadecimal; or the refusal.
@@ -11,8 +11,13 @@ pub fn numbered_line(reply: Numbered, out: &[u8], text: &mut [u8]) -> usize
     ensures { Wrote (number_reply reply out.now) 0 text.old text.new result }
 {
     match reply {
-        Numbered::Done(n) => part_line(inputs::part_at(out, 0, n), text),
-        Numbered::Refused(c) => report::refusal(text, 0, c as usize),
+        Numbered::Done(n) => line(
+            &Hex {
+                bytes: inputs::part_at(out, 0, n),
+            },
+            text,
+        ),
+        Numbered::Refused(c) => report::refusal(text, 0, usize::from(c)),
         Numbered::Twice(n) => words::node_line(text, 81, n),
     }
 }

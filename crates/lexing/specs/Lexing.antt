@@ -16,111 +16,106 @@ use Rattle.tokens.specs.Tokens.{is_blank as is_blank', is_letter as is_letter', 
 use Rattle.tokens.specs.Laid.{is_digit, shuts}
 use Rattle.tokens.specs.Ahead.{Passes, Meets, at_end, at_blank, at_comment, in_comment, at_line, at_mark, at_arrow, at_dash, all_in, is_part, at_word}
 use Rattle.tokens.specs.Ahead.{letter_first, digit_first, at_digits, at_hash, Here, here_passed, here_met, place_at, place_met, place_end}
+use Rattle.lexing.specs.declared.Class.TheVariants as is
+use Rattle.lexing.specs.declared.Class as found
+use Rattle.lexing.specs.declared.Kind.{Kind}
+use Rattle.lexing.specs.declared.Kind.TheVariants as kind
 use Rattle.lexing.specs.declared.Lexeme.{Lexeme}
+use Rattle.lexing.specs.declared.Tail.{Tail}
+use Rattle.lexing.specs.declared.Tail.TheVariants as tail
 
--- the class of a byte as a number
-unfoldable pub code_of : Class → ℕ
-code_of blank = 0
-code_of letter = 1
-code_of digit = 2
-code_of dash = 3
-code_of sharp = 4
-code_of other = 5
+-- the class of a byte as code has it
+unfoldable pub class_named : Class → found.Class
+class_named blank = is.Blank
+class_named letter = is.Letter
+class_named digit = is.Digit
+class_named dash = is.Dash
+class_named sharp = is.Sharp
+class_named other = is.Other
 
-pub code_blank : (k : Class) → code_of k ≡ 0 → k ≡ blank
-unfolding code_of
-code_blank blank e = refl
-code_blank letter e = absurd (omega arith)
-code_blank digit e = absurd (omega arith)
-code_blank dash e = absurd (omega arith)
-code_blank sharp e = absurd (omega arith)
-code_blank other e = absurd (omega arith)
+pub named_blank : (k : Class) → class_named k ≡ is.Blank → k ≡ blank
+unfolding class_named
+named_blank blank e = refl
+named_blank letter e = cc
+named_blank digit e = cc
+named_blank dash e = cc
+named_blank sharp e = cc
+named_blank other e = cc
 
-pub code_letter : (k : Class) → code_of k ≡ 1 → k ≡ letter
-unfolding code_of
-code_letter letter e = refl
-code_letter blank e = absurd (omega arith)
-code_letter digit e = absurd (omega arith)
-code_letter dash e = absurd (omega arith)
-code_letter sharp e = absurd (omega arith)
-code_letter other e = absurd (omega arith)
+pub named_letter : (k : Class) → class_named k ≡ is.Letter → k ≡ letter
+unfolding class_named
+named_letter letter e = refl
+named_letter blank e = cc
+named_letter digit e = cc
+named_letter dash e = cc
+named_letter sharp e = cc
+named_letter other e = cc
 
-pub code_digit : (k : Class) → code_of k ≡ 2 → k ≡ digit
-unfolding code_of
-code_digit digit e = refl
-code_digit blank e = absurd (omega arith)
-code_digit letter e = absurd (omega arith)
-code_digit dash e = absurd (omega arith)
-code_digit sharp e = absurd (omega arith)
-code_digit other e = absurd (omega arith)
+pub named_digit : (k : Class) → class_named k ≡ is.Digit → k ≡ digit
+unfolding class_named
+named_digit digit e = refl
+named_digit blank e = cc
+named_digit letter e = cc
+named_digit dash e = cc
+named_digit sharp e = cc
+named_digit other e = cc
 
-pub code_dash : (k : Class) → code_of k ≡ 3 → k ≡ dash
-unfolding code_of
-code_dash dash e = refl
-code_dash blank e = absurd (omega arith)
-code_dash letter e = absurd (omega arith)
-code_dash digit e = absurd (omega arith)
-code_dash sharp e = absurd (omega arith)
-code_dash other e = absurd (omega arith)
+pub named_dash : (k : Class) → class_named k ≡ is.Dash → k ≡ dash
+unfolding class_named
+named_dash dash e = refl
+named_dash blank e = cc
+named_dash letter e = cc
+named_dash digit e = cc
+named_dash sharp e = cc
+named_dash other e = cc
 
-pub code_sharp : (k : Class) → code_of k ≡ 4 → k ≡ sharp
-unfolding code_of
-code_sharp sharp e = refl
-code_sharp blank e = absurd (omega arith)
-code_sharp letter e = absurd (omega arith)
-code_sharp digit e = absurd (omega arith)
-code_sharp dash e = absurd (omega arith)
-code_sharp other e = absurd (omega arith)
+pub named_sharp : (k : Class) → class_named k ≡ is.Sharp → k ≡ sharp
+unfolding class_named
+named_sharp sharp e = refl
+named_sharp blank e = cc
+named_sharp letter e = cc
+named_sharp digit e = cc
+named_sharp dash e = cc
+named_sharp other e = cc
+
+pub ruleset named_laws = (named_blank, named_letter, named_digit, named_dash, named_sharp)
 
 -- the class of a byte from the tests in their order
 module _ (c : ℕ) where
-  pub class_blank : is_blank' c ≡ true → 0 ≡ code_of (class_of c)
-  unfolding class_of code_of
+  pub class_blank : is_blank' c ≡ true → is.Blank ≡ class_named (class_of c)
+  unfolding class_of class_named
   class_blank b = rw b
 
   module _ (b : is_blank' c ≡ false) where
-    pub class_letter : is_letter' c ≡ true → 1 ≡ code_of (class_of c)
-    unfolding class_of code_of
+    pub class_letter : is_letter' c ≡ true → is.Letter ≡ class_named (class_of c)
+    unfolding class_of class_named
     class_letter l = rw (b, l)
 
     module _ (l : is_letter' c ≡ false) where
-      pub class_digit : is_digit' c ≡ true → 2 ≡ code_of (class_of c)
-      unfolding class_of code_of
+      pub class_digit : is_digit' c ≡ true → is.Digit ≡ class_named (class_of c)
+      unfolding class_of class_named
       class_digit d = rw (b, l, d)
 
       module _ (d : is_digit' c ≡ false) where
-        pub class_dashed : c ≡ 45 → 3 ≡ code_of (class_of c)
-        unfolding class_of code_of
+        pub class_dashed : c ≡ 45 → is.Dash ≡ class_named (class_of c)
+        unfolding class_of class_named
         class_dashed e = rw e
 
         module _ (n : c ≡ 45 → ⊥) where
-          pub class_sharp : c ≡ 35 → 4 ≡ code_of (class_of c)
-          unfolding class_of code_of
+          pub class_sharp : c ≡ 35 → is.Sharp ≡ class_named (class_of c)
+          unfolding class_of class_named
           class_sharp e = rw e
 
-          pub class_other : (c ≡ 35 → ⊥) → 5 ≡ code_of (class_of c)
-          unfolding class_of code_of
+          pub class_other : (c ≡ 35 → ⊥) → is.Other ≡ class_named (class_of c)
+          unfolding class_of class_named
           class_other h = rw (b, l, d, ne_eqb c 45 n, ne_eqb c 35 h)
 
--- the bytes of a run: digits, or letters and digits
-unfoldable pub in_run : Bool → Class → Bool
-in_run true = is_part
-in_run false = is_digit
+pub ruleset class_laws = (class_blank, class_letter, class_digit, class_dashed, class_sharp, class_other)
 
-pub run_told : (l : Bool) (k : Class) → (code_of k ≡ 1 → l ≡ in_run l k) × ((code_of k ≡ 1 → ⊥) → eqb (code_of k) 2 ≡ in_run l k)
-unfolding code_of in_run
-run_told true letter = (λ e. refl, λ h. absurd (h refl))
-run_told false letter = (λ e. refl, λ h. absurd (h refl))
-run_told true digit = (λ e. absurd (omega arith), λ h. refl)
-run_told false digit = (λ e. absurd (omega arith), λ h. refl)
-run_told true blank = (λ e. absurd (omega arith), λ h. refl)
-run_told false blank = (λ e. absurd (omega arith), λ h. refl)
-run_told true dash = (λ e. absurd (omega arith), λ h. refl)
-run_told false dash = (λ e. absurd (omega arith), λ h. refl)
-run_told true sharp = (λ e. absurd (omega arith), λ h. refl)
-run_told false sharp = (λ e. absurd (omega arith), λ h. refl)
-run_told true other = (λ e. absurd (omega arith), λ h. refl)
-run_told false other = (λ e. absurd (omega arith), λ h. refl)
+-- the bytes of a run: digits, or letters and digits
+unfoldable pub in_run : Tail → Class → Bool
+in_run tail.Letters = is_part
+in_run tail.Digits = is_digit
 
 -- PARTS OF A TEXT
 
@@ -263,34 +258,30 @@ pub record Gap (s : List ℕ) (at r : ℕ) : Type 0 where
   pub on : On s at between r between
   pub black : r ≡ at → Black s at
 
-pub gap_blank : (s : List ℕ) (at : ℕ) → at < length s → code_of (class_of (get_or s at 0)) ≡ 0 → Gap s at (at + 1)
+pub gap_blank : (s : List ℕ) (at : ℕ) → at < length s → class_of (get_or s at 0) ≡ blank → Gap s at (at + 1)
 gap_blank s at h e = record {
   later = omega arith;
   inside = omega arith;
-  on = rw (at_byte s at h, add-one) (at_blank at (get_or s at 0) (drop (suc at) s) (code_blank (class_of (get_or s at 0)) e));
+  on = rw (at_byte s at h, add-one) (at_blank at (get_or s at 0) (drop (suc at) s) e);
   black = λ q. absurd (omega arith);
 }
 
 pub gap_none : (s : List ℕ) (at : ℕ) → at < length s → Black s at → Gap s at at
 gap_none s at h b = record { later = omega arith; inside = omega arith; on = stay s at between; black = λ q. b }
 
-class_dash : (c : ℕ) → c ≡ 45 → code_of (class_of c) ≡ 3
-unfolding class_of code_of
+class_dash : (c : ℕ) → c ≡ 45 → class_of c ≡ dash
+unfolding class_of
 class_dash c e = rw e
 
-pub not_dash : (s : List ℕ) (at : ℕ) → (code_of (class_of (get_or s at 0)) ≡ 0 → ⊥) → (code_of (class_of (get_or s at 0)) ≡ 3 → ⊥) → Black s at
-unfolding code_of
-not_dash s at h k = record { printed = λ i e. h (rw e); alone = λ i e j f. k (class_dash (get_or s at 0) e) }
+pub not_dash : (s : List ℕ) (at : ℕ) → (class_of (get_or s at 0) ≡ blank → ⊥) → (class_of (get_or s at 0) ≡ dash → ⊥) → Black s at
+not_dash s at h k = record { printed = λ i e. h e; alone = λ i e j f. k (class_dash (get_or s at 0) e) }
 
-pub one_dash : (s : List ℕ) (at : ℕ) → code_of (class_of (get_or s at 0)) ≡ 3 → (at + 1 < length s → get_or s (at + 1) 0 ≡ 45 → ⊥) → Black s at
-unfolding code_of
-one_dash s at e h = record { printed = λ i f. let z : ◌≡◌ {A = ℕ} 0 3 = rw f at e in absurd (omega arith); alone = λ i f j g. h j g }
+pub ruleset gap_laws = (gap_none, not_dash, named_laws)
 
--- the byte of class 3
-pub is_dash : (c : ℕ) → code_of (class_of c) ≡ 3 → c ≡ 45
-is_dash c e = dash_byte c (code_dash (class_of c) e)
+pub one_dash : (s : List ℕ) (at : ℕ) → class_of (get_or s at 0) ≡ dash → (at + 1 < length s → get_or s (at + 1) 0 ≡ 45 → ⊥) → Black s at
+one_dash s at e h = record { printed = λ i f. let z : ◌≡◌ {A = Class} blank dash = sym f ∙ e in cc; alone = λ i f j g. h j g }
 
-pub gap_comment : (s : List ℕ) (at : ℕ) {r : ℕ} → at + 1 < length s → code_of (class_of (get_or s at 0)) ≡ 3 → get_or s (at + 1) 0 ≡ 45 → Comment s (at + 2) r
+pub gap_comment : (s : List ℕ) (at : ℕ) {r : ℕ} → at + 1 < length s → class_of (get_or s at 0) ≡ dash → get_or s (at + 1) 0 ≡ 45 → Comment s (at + 2) r
     → Gap s at r
 gap_comment s at h e f w =
     let g = at_comment at (drop (at + 2) s) in
@@ -298,7 +289,7 @@ gap_comment s at h e f w =
     record {
       later = omega (arith, w.later);
       inside = w.inside;
-      on = passes_then (rw (two_bytes s at h, is_dash (get_or s at 0) e, f) (rw z at g)) w.on;
+      on = passes_then (rw (two_bytes s at h, dash_byte (get_or s at 0) e, f) (rw z at g)) w.on;
       black = λ q. absurd (omega (arith, w.later));
     }
 
@@ -324,12 +315,16 @@ skip_done w g e = record { skipped = w; black = g.black e }
 
 -- THE TOKEN AHEAD
 
+unfoldable pub token_of : List ℕ → ℕ → ℕ → Kind → Token
+token_of s at end kind.Word = word (part s at end)
+token_of s at end kind.Digits = digits (part s at end) (letter_first (drop end s))
+token_of s at end kind.Hash = hash (part s (suc at) end) (letter_first (drop end s))
+token_of s at end kind.Arrow = mark arrow
+token_of s at end kind.End = mark []
+token_of s at end (kind.Mark c) = mark (c ∷ [])
+
 unfoldable pub token_at : List ℕ → Lexeme → Token
-token_at s t =
-    cond (eqb t.kind 97) (word (part s t.at t.end))
-    (cond (eqb t.kind 48) (digits (part s t.at t.end) (letter_first (drop t.end s)))
-    (cond (eqb t.kind 35) (hash (part s (suc t.at) t.end) (letter_first (drop t.end s)))
-    (cond (eqb t.kind 65) (mark arrow) (cond (eqb t.kind 90) (mark []) (mark (t.kind ∷ []))))))
+token_at s t = token_of s t.at t.end t.kind
 
 abbrev pub ahead : List ℕ → ℕ → List Token
 ahead s p = tokens between (drop p s)
@@ -341,27 +336,27 @@ Between s p = Here s p between (drop p s)
 pub record Shape (s : List ℕ) (t : Lexeme) : Type 0 where
   pub order : t.at ≤ t.end
   pub inside : t.end ≤ length s
-  pub a_word : t.kind ≡ 97 → (t.at < t.end) × (all_in is_part (part s t.at t.end) ≡ true) × (shuts (drop t.end s) ≡ true)
-  pub a_number : t.kind ≡ 48 → (t.at < t.end) × (all_in is_digit (part s t.at t.end) ≡ true)
-  pub a_hash : t.kind ≡ 35 → (t.at < t.end) × (all_in is_digit (part s (suc t.at) t.end) ≡ true)
+  pub a_word : t.kind ≡ kind.Word → (t.at < t.end) × (all_in is_part (part s t.at t.end) ≡ true) × (shuts (drop t.end s) ≡ true)
+  pub a_number : t.kind ≡ kind.Digits → (t.at < t.end) × (all_in is_digit (part s t.at t.end) ≡ true)
+  pub a_hash : t.kind ≡ kind.Hash → (t.at < t.end) × (all_in is_digit (part s (suc t.at) t.end) ≡ true)
 
 pub record Next (s : List ℕ) (p : ℕ) (t : Lexeme) : Type 0 where
   pub token : first (ahead s p) ≡ token_at s t
   pub behind : rest (ahead s p) ≡ ahead s t.end
   pub place : Between s p → place_at s (length (ahead s p)) ≡ t.at
   pub here : Between s p → Between s t.end
-  pub ended : t.kind ≡ 90 → ahead s p ≡ []
-  pub some : (t.kind ≡ 90 → ⊥) → ahead s p ≡ token_at s t ∷ ahead s t.end
+  pub ended : t.kind ≡ kind.End → ahead s p ≡ []
+  pub some : (t.kind ≡ kind.End → ⊥) → ahead s p ≡ token_at s t ∷ ahead s t.end
   pub shape : Shape s t
 
 -- A TOKEN THAT BEGINS AT A PLACE
 pub record Lexed (s : List ℕ) (at : ℕ) (t : Lexeme) : Type 0 where
   pub begins : t.at ≡ at
   pub meets : Meets at between (drop at s) (token_at s t) at t.end (drop t.end s)
-  pub real : t.kind ≡ 90 → ⊥
+  pub real : t.kind ≡ kind.End → ⊥
   pub shape : Shape s t
 
-abbrev lexeme : ℕ → ℕ → ℕ → Lexeme
+abbrev lexeme : Kind → ℕ → ℕ → Lexeme
 lexeme k at end = record { kind = k; at = at; end = end }
 
 meets_as : {p place q q' : ℕ} {m : Mode} {s s' b : List ℕ} {t t' : Token} → Meets p m s t place q b → s ≡ s' → t ≡ t' → q ≡ q' → Meets p m s' t' place q' b
@@ -426,58 +421,56 @@ module _ (s : List ℕ) (at r : ℕ) (h : at < length s) where
         → Meets at between (drop at s) t' at r (drop r s)
     as_met m e = meets_as m (split w.run.later) e (ends_at w)
 
-  pub lex_word : code_of (class_of (get_or s at 0)) ≡ 1 → Running (in_run true) s (at + 1) r → Lexed s at (lexeme 97 at r)
-  unfolding in_run token_at
+  pub lex_word : class_of (get_or s at 0) ≡ letter → Running (in_run tail.Letters) s (at + 1) r → Lexed s at (lexeme kind.Word at r)
+  unfolding in_run token_of token_at
   lex_word e w =
-      let k = code_letter (class_of (get_or s at 0)) e in
       let g = after w in
       record {
         begins = refl;
-        meets = as_met w (at_word at (get_or s at 0) (part s (at + 1) r) (drop r s) k w.run.all (shut w)) (ap word (sym (inner w)));
-        real = λ q. omega arith;
+        meets = as_met w (at_word at (get_or s at 0) (part s (at + 1) r) (drop r s) e w.run.all (shut w)) (ap word (sym (inner w)));
+        real = λ q. cc;
         shape = record {
           order = omega arith;
           inside = w.run.inside;
-          a_word = λ q. (omega arith, all_first w (rw k), shut w);
-          a_number = λ q. absurd (omega arith);
-          a_hash = λ q. absurd (omega arith);
+          a_word = λ q. (omega arith, all_first w (rw e), shut w);
+          a_number = λ q. cc;
+          a_hash = λ q. cc;
         };
       }
 
-  pub lex_digits : code_of (class_of (get_or s at 0)) ≡ 2 → Running (in_run false) s (at + 1) r → Lexed s at (lexeme 48 at r)
-  unfolding in_run token_at
+  pub lex_digits : class_of (get_or s at 0) ≡ digit → Running (in_run tail.Digits) s (at + 1) r → Lexed s at (lexeme kind.Digits at r)
+  unfolding in_run token_of token_at
   lex_digits e w =
-      let k = code_digit (class_of (get_or s at 0)) e in
       let g = after w in
       record {
         begins = refl;
-        meets = as_met w (at_digits at (get_or s at 0) (part s (at + 1) r) (drop r s) k w.run.all (no_digit w))
+        meets = as_met w (at_digits at (get_or s at 0) (part s (at + 1) r) (drop r s) e w.run.all (no_digit w))
             (ap (λ (l : List ℕ). digits l (letter_first (drop r s))) (sym (inner w)));
-        real = λ q. omega arith;
+        real = λ q. cc;
         shape = record {
           order = omega arith;
           inside = w.run.inside;
-          a_word = λ q. absurd (omega arith);
-          a_number = λ q. (omega arith, all_first w (rw k));
-          a_hash = λ q. absurd (omega arith);
+          a_word = λ q. cc;
+          a_number = λ q. (omega arith, all_first w (rw e));
+          a_hash = λ q. cc;
         };
       }
 
-  pub lex_hash : code_of (class_of (get_or s at 0)) ≡ 4 → Running (in_run false) s (at + 1) r → Lexed s at (lexeme 35 at r)
-  unfolding in_run token_at
+  pub lex_hash : class_of (get_or s at 0) ≡ sharp → Running (in_run tail.Digits) s (at + 1) r → Lexed s at (lexeme kind.Hash at r)
+  unfolding in_run token_of token_at
   lex_hash e w =
-      let k = sharp_byte (get_or s at 0) (code_sharp (class_of (get_or s at 0)) e) in
+      let k = sharp_byte (get_or s at 0) e in
       let g = after w in
       record {
         begins = refl;
         meets = as_met w (rw k (at_hash at (part s (at + 1) r) (drop r s) w.run.all (no_digit w)))
             (ap (λ (l : List ℕ). hash l (letter_first (drop r s))) (sym (behind_1 w)));
-        real = λ q. omega arith;
+        real = λ q. cc;
         shape = record {
           order = omega arith;
           inside = w.run.inside;
-          a_word = λ q. absurd (omega arith);
-          a_number = λ q. absurd (omega arith);
+          a_word = λ q. cc;
+          a_number = λ q. cc;
           a_hash = λ q. (omega arith, rw (behind_1 w) w.run.all);
         };
       }
@@ -486,96 +479,72 @@ module _ (s : List ℕ) (at r : ℕ) (h : at < length s) where
 pub record Mark (s : List ℕ) (at : ℕ) : Type 0 where
   pub inside : at < length s
   pub black : Black s at
-  pub letterless : code_of (class_of (get_or s at 0)) ≡ 1 → ⊥
-  pub digitless : code_of (class_of (get_or s at 0)) ≡ 2 → ⊥
-  pub sharpless : code_of (class_of (get_or s at 0)) ≡ 4 → ⊥
+  pub letterless : class_of (get_or s at 0) ≡ letter → ⊥
+  pub digitless : class_of (get_or s at 0) ≡ digit → ⊥
+  pub sharpless : class_of (get_or s at 0) ≡ sharp → ⊥
 
 module _ {s : List ℕ} {at : ℕ} (m : Mark s at) where
-  -- its byte is none of those that name another kind of token
-  kind_97 : get_or s at 0 ≡ 97 → ⊥
-  unfolding class_of code_of
-  kind_97 e = m.letterless (rw e)
-
-  kind_65 : get_or s at 0 ≡ 65 → ⊥
-  unfolding class_of code_of
-  kind_65 e = m.letterless (rw e)
-
-  kind_90 : get_or s at 0 ≡ 90 → ⊥
-  unfolding class_of code_of
-  kind_90 e = m.letterless (rw e)
-
-  kind_48 : get_or s at 0 ≡ 48 → ⊥
-  unfolding class_of code_of
-  kind_48 e = m.digitless (rw e)
-
-  kind_35 : get_or s at 0 ≡ 35 → ⊥
-  unfolding class_of code_of
-  kind_35 e = m.sharpless (rw e)
-
-  one_byte : token_at s (lexeme (get_or s at 0) at (at + 1)) ≡ mark (get_or s at 0 ∷ [])
-  unfolding token_at
-  one_byte =
-      let c = get_or s at 0 in
-      rw (ne_eqb c 97 kind_97, ne_eqb c 48 kind_48, ne_eqb c 35 kind_35, ne_eqb c 65 kind_65, ne_eqb c 90 kind_90)
+  one_byte : token_at s (lexeme (kind.Mark (get_or s at 0)) at (at + 1)) ≡ mark (get_or s at 0 ∷ [])
+  unfolding token_of token_at
+  one_byte = refl
 
   lexed : {t : Token} → Meets at between (drop at s) t at (at + 1) (drop (at + 1) s) → t ≡ mark (get_or s at 0 ∷ [])
-      → Lexed s at (lexeme (get_or s at 0) at (at + 1))
+      → Lexed s at (lexeme (kind.Mark (get_or s at 0)) at (at + 1))
   lexed w e = record {
     begins = refl;
     meets = meets_as w refl (e ∙ sym one_byte) refl;
-    real = kind_90;
+    real = λ q. cc;
     shape = record {
       order = omega arith;
       inside = omega (arith, m.inside);
-      a_word = λ q. absurd (kind_97 q);
-      a_number = λ q. absurd (kind_48 q);
-      a_hash = λ q. absurd (kind_35 q);
+      a_word = λ q. cc;
+      a_number = λ q. cc;
+      a_hash = λ q. cc;
     };
   }
 
-  code_other : (get_or s at 0 ≡ 45 → ⊥) → (k : Class) → class_of (get_or s at 0) ≡ k → class_of (get_or s at 0) ≡ other
-  unfolding code_of
-  code_other h blank e = absurd (m.black.printed m.inside e)
-  code_other h letter e = absurd (m.letterless (rw e))
-  code_other h digit e = absurd (m.digitless (rw e))
-  code_other h dash e = absurd (h (dash_byte (get_or s at 0) e))
-  code_other h sharp e = absurd (m.sharpless (rw e))
-  code_other h other e = e
+  class_is : (get_or s at 0 ≡ 45 → ⊥) → (k : Class) → class_of (get_or s at 0) ≡ k → class_of (get_or s at 0) ≡ other
+  class_is h blank e = absurd (m.black.printed m.inside e)
+  class_is h letter e = absurd (m.letterless e)
+  class_is h digit e = absurd (m.digitless e)
+  class_is h dash e = absurd (h (dash_byte (get_or s at 0) e))
+  class_is h sharp e = absurd (m.sharpless e)
+  class_is h other e = e
 
-  pub lex_one : (get_or s at 0 ≡ 45 → ⊥) → Lexed s at (lexeme (get_or s at 0) at (at + 1))
-  lex_one h = lexed (rw (at_byte s at m.inside, add-one) (at_mark at (get_or s at 0) (drop (suc at) s) (code_other h _ refl))) refl
+  pub lex_one : (get_or s at 0 ≡ 45 → ⊥) → Lexed s at (lexeme (kind.Mark (get_or s at 0)) at (at + 1))
+  lex_one h = lexed (rw (at_byte s at m.inside, add-one) (at_mark at (get_or s at 0) (drop (suc at) s) (class_is h _ refl))) refl
 
   -- a lone dash, behind which the text ends or stands another byte
-  pub lex_last : get_or s at 0 ≡ 45 → length s ≤ at + 1 → Lexed s at (lexeme (get_or s at 0) at (at + 1))
+  pub lex_last : get_or s at 0 ≡ 45 → length s ≤ at + 1 → Lexed s at (lexeme (kind.Mark (get_or s at 0)) at (at + 1))
   lex_last e h = lexed {t = mark (bytes "-")} (rw (at_byte s at m.inside, drop_of_length-le s {i = at + 1} h, e) (dash_last at)) (rw e)
 
-  pub lex_dash : get_or s at 0 ≡ 45 → at + 1 < length s → (get_or s (at + 1) 0 ≡ 62 → ⊥) → Lexed s at (lexeme (get_or s at 0) at (at + 1))
+  pub lex_dash : get_or s at 0 ≡ 45 → at + 1 < length s → (get_or s (at + 1) 0 ≡ 62 → ⊥) → Lexed s at (lexeme (kind.Mark (get_or s at 0)) at (at + 1))
   lex_dash e h f =
       let c = get_or s (at + 1) 0 in
       let g = at_dash at c (drop (at + 2) s) (λ q. m.black.alone m.inside e h q) f in
       let z : drop (at + 1) s ≡ c ∷ drop (at + 2) s = (let q : at + 1 + 1 ≡ at + 2 = omega arith in at_byte s (at + 1) h ∙ ap (λ (n : ℕ). c ∷ drop n s) q) in
       lexed {t = mark (bytes "-")} (rw (two_bytes s at h, z, e) (meets_as g refl refl (omega arith))) (rw e)
 
-  pub lex_arrow : get_or s at 0 ≡ 45 → at + 1 < length s → get_or s (at + 1) 0 ≡ 62 → Lexed s at (lexeme 65 at (at + 2))
-  unfolding token_at
+  pub lex_arrow : get_or s at 0 ≡ 45 → at + 1 < length s → get_or s (at + 1) 0 ≡ 62 → Lexed s at (lexeme kind.Arrow at (at + 2))
+  unfolding token_of token_at
   lex_arrow e h f =
       let z : suc (suc at) ≡ at + 2 = omega arith in
       record {
         begins = refl;
         meets = rw (two_bytes s at h, e, f) (rw z at (at_arrow at (drop (at + 2) s)));
-        real = λ q. omega arith;
+        real = λ q. cc;
         shape = record {
           order = omega arith;
           inside = omega arith;
-          a_word = λ q. absurd (omega arith);
-          a_number = λ q. absurd (omega arith);
-          a_hash = λ q. absurd (omega arith);
+          a_word = λ q. cc;
+          a_number = λ q. cc;
+          a_hash = λ q. cc;
         };
       }
 
 -- THE TOKEN AHEAD OF A PLACE: what stands before it is skipped
-pub next_end : {s : List ℕ} {p at : ℕ} → Skips s p at → length s ≤ at → Next s p (lexeme 90 (length s) (length s))
-unfolding token_at first rest
+pub next_end : {s : List ℕ} {p at : ℕ} → Skips s p at → length s ≤ at → Next s p (lexeme kind.End (length s) (length s))
+unfolding token_of token_at first rest
 next_end {s} {p} {at} w h =
     let d : drop at s ≡ [] = drop_of_length-le s h in
     let e : ahead s p ≡ [] = w.skipped.on.ahead ∙ rw d (at_end at).0 in
@@ -590,9 +559,9 @@ next_end {s} {p} {at} w h =
       shape = record {
         order = omega arith;
         inside = omega arith;
-        a_word = λ q. absurd (omega arith);
-        a_number = λ q. absurd (omega arith);
-        a_hash = λ q. absurd (omega arith);
+        a_word = λ q. cc;
+        a_number = λ q. cc;
+        a_hash = λ q. cc;
       };
     }
 

@@ -61,45 +61,36 @@ pub enum Node {
     Wide(u32),
 }
 
-// A byte as a number of a node, section or variable.
-fn extend(b: u8) -> usize
-    ensures { result ≡ b }
-{
-    b as usize
-}
-
 // The bytes of a node record, the kind byte with them: kinds 10 to 1D in order.
 const WIDTHS: [u8; 14] = [2, 1, 1, 1, 3, 3, 3, 8, 6, 3, 4, 4, 5, 5];
 
-/// The bytes of a node record of this kind; 0 where no node has the kind.
+/// The bytes of a node record of this kind; 0 where no node has the kind. It is 0 and no `None`, since all callers but one go on with it: such a
+/// record has no byte.
 pub fn record_width(kind: u8) -> usize
     ensures { result ≡ kind_width kind }
 {
     if kind < 0x10 {
         return 0;
     }
-    let k = extend(kind) - 0x10;
+    let k = usize::from(kind) - 0x10;
     if 14 <= k {
         return 0;
     }
-    extend(WIDTHS[k])
+    usize::from(WIDTHS[k])
 }
 
 // Byte i of a record; 0 where the bytes end before it.
 fn byte_at(r: &[u8], i: usize) -> u8
     ensures { result ≡ get_or r.now i 0 }
 {
-    if r.len() <= i {
-        return 0;
-    }
-    r[i]
+    if i < r.len() { r[i] } else { 0 }
 }
 
 // The same as a number of a node, section or variable.
 fn at(r: &[u8], i: usize) -> usize
     ensures { result ≡ get_or r.now i 0 }
 {
-    extend(byte_at(r, i))
+    usize::from(byte_at(r, i))
 }
 
 // Bytes i and i + 1 of a record as a number, high byte first.
@@ -116,7 +107,12 @@ fn four_at(r: &[u8], i: usize) -> u32
     ensures { result ≡ 65536 * (256 * get_or r.now i 0 + get_or r.now (i + 1) 0) +
         (256 * get_or r.now (i + 2) 0 + get_or r.now (i + 2 + 1) 0) }
 {
-    65536 * (pair_at(r, i) as u32) + (pair_at(r, i + 2) as u32)
+    u32::from_be_bytes([
+        byte_at(r, i),
+        byte_at(r, i + 1),
+        byte_at(r, i + 2),
+        byte_at(r, i + 3),
+    ])
 }
 
 // The list case (17) whose record these bytes begin with.
@@ -161,7 +157,8 @@ fn each(r: &[u8]) -> Node
     }
 }
 
-// The node whose whole record these bytes begin with; `False` where no node has the kind.
+// The node whose whole record these bytes begin with; `False` where no node has the kind, as the contract of `node_at` has it. The kind is told
+// by its byte, as document 01 asks.
 fn decode(r: &[u8]) -> Node
     requires { (1 ≤ length r.now) × (kind_width (get_or r.now 0 0) ≤ length r.now) }
     ensures { result ≡ node_of r.now }
@@ -219,18 +216,14 @@ pub fn node_at(s: &[u8], at: usize) -> Node
 pub fn byte_of(s: &[u8], at: u16, i: u16) -> u8
     ensures { result ≡ get_or s.now (at + i) 0 }
 {
-    let k = (at as usize) + (i as usize);
-    if s.len() <= k {
-        return 0;
-    }
-    s[k]
+    byte_at(s, usize::from(at) + usize::from(i))
 }
 
 /// The same as a number of a node, section or variable.
 pub fn number_of(s: &[u8], at: u16, i: u16) -> usize
     ensures { result ≡ get_or s.now (at + i) 0 }
 {
-    extend(byte_of(s, at, i))
+    usize::from(byte_of(s, at, i))
 }
 
 /// The value of the constant of four bytes (1D) whose record starts at byte `at` of a sheet: the kind 06, and the record's four.
@@ -251,7 +244,7 @@ fn is_below(r: &[u8], i: usize, own: usize, nodes: usize) -> bool
     ensures { result ≡ ltb own (get_or r.now i 0) && ltb (get_or r.now i 0) nodes }
 {
     let n = at(r, i);
-    if own < n { n < nodes } else { false }
+    own < n && n < nodes
 }
 
 // Whether bytes i and i + 1 are.

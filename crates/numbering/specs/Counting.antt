@@ -1,15 +1,17 @@
 -- The uses of a sheet's nodes, counted in an array up to two.
-use Rattle.std.specs.Prelude.{◌≡◌, refl, Bool, true, false, cond, List, [], ◌∷◌, ◌++◌, ℕ, zero, suc, ◌+◌, ◌*◌, ◌-◌, ◌≤◌, ◌<◌, min, leb, eqb, length}
-use Rattle.std.specs.Prelude.{get_or, set, take, replicate}
+use Rattle.std.specs.Prelude.{◌≡◌, refl, Bool, true, false, cond, List, [], ◌∷◌, ◌++◌, ℕ, zero, suc, ◌+◌, ◌*◌, ◌-◌, ◌≤◌, ◌<◌, min, leb, ltb, eqb, length, ◌==◌, Option, Some, None}
+use Rattle.std.specs.Prelude.{get_or, set, take, drop, replicate}
+use Rattle.std.specs.List.{position, position_or_len}
 use Rattle.std.proofs.Math.Path.{ap, sym}
-use Rattle.std.proofs.Common.{◌∙◌, append_assoc, append-nil, zero-add, add-one, arith, length-set, length-append, take-suc, take_all, get_or-set_same}
-use Rattle.std.proofs.Common.{get_or-set_other, eq-eqb, ne_eqb, le-leb, Fits}
-use Rattle.std.proofs.Math.Decide.{ℕ_discrete, dec_le}
+use Rattle.std.proofs.Common.{◌∙◌, append_assoc, append-nil, zero-add, add-one, arith, length-set, length-append, length-take-le, drop-cons, take-suc, take_all, get_or-set_same}
+use Rattle.std.proofs.Common.{get_or-set_other, eq-eqb, ne_eqb, le-leb, lt-ltb, le-ltb, Fits}
+use Rattle.std.proofs.Math.Decide.{ℕ_discrete, dec_le, dec_lt}
 use Rattle.std.proofs.lemmas.List.{length-replicate, get_or-replicate}
-use Rattle.std.proofs.Math.Seq.{take-append_seam}
+use Rattle.std.proofs.Math.ListN.{get_or-eq_default}
+use Rattle.std.proofs.Math.Seq.{take-append_seam, set_out}
 use Rattle.std.proofs.lemmas.Bool.{lt-leb}
 use Rattle.std.specs.Int.{w8}
-use Rattle.value.specs.Result.{ok}
+use Rattle.value.specs.Result.{ok, map_result}
 use Rattle.node.specs.declared.Node.{Node}
 use Rattle.node.specs.declared.Node.TheVariants.{False}
 use Rattle.sheet.specs.declared.Table.{Table}
@@ -20,13 +22,14 @@ use Rattle.sheet.specs.Table.{table_of, section_at}
 use Rattle.node.specs.Forms.{listing}
 use Rattle.sheet.specs.Laws.{Reads, table_reads}
 use Rattle.sheet.proofs.Rows.{width_8}
-use Rattle.sheet.specs.Parts.{children_of, children_at}
-use Rattle.sheet.proofs.PartsLaws.{children_told}
+use Rattle.sheet.specs.Parts.{children_of, children_at, nodes_in, part_at}
+use Rattle.sheet.proofs.PartsLaws.{children_told, kind_narrow}
+use Rattle.node.specs.Decoding.{kind_width}
 use Rattle.report.specs.Writing.{Wrote, wrote, wrote_then, wrote_text, wrote_front, front_read}
-use Rattle.records.specs.AnewLaws.{listing_long, wrote_listing, listing_same, listing_of, made_there}
+use Rattle.records.specs.AnewLaws.{listing_more, listing_long, wrote_listing, listing_same, listing_of, made_there}
 use Rattle.preorder.specs.Numbering.{node_of, roots}
 use Rattle.preorder.specs.NumberingLaws.{all_children, uses}
-use Rattle.preorder.specs.Uses.{times, times_here, times_there, lowest_from, lowest_here, lowest_later}
+use Rattle.preorder.specs.Uses.{times, times_here, times_there, lowest_from, lowest_here, lowest_later, lowest_twice}
 
 -- A TABLE OF USES
 
@@ -71,6 +74,15 @@ used_append : (u ns ms : List ℕ) → used_all u (ns ++ ms) ≡ used_all (used_
 unfolding used_all
 used_append u [] ms = refl
 used_append u (n ∷ ns) ms = used_append (used u n) ns ms
+
+-- the roots of sections, one by one
+pub used_listing : (u : List ℕ) (h : ℕ → ℕ) (i : ℕ) → used (used_all u (listing i h)) (h i) ≡ used_all u (listing (i + 1) h)
+unfolding used_all
+used_listing u h i =
+    sym (ap (used_all u) (ap (λ (k : ℕ). listing k h) (add-one i) ∙ listing_more i h) ∙ used_append u (listing i h) (h i ∷ []))
+
+pub used_out : (u : List ℕ) (n : ℕ) → length u ≤ n → used u n ≡ u
+used_out u n h = used_more u n (rw (get_or-eq_default u 0 h) (omega arith)) ∙ set_out u n (get_or u n 0 + 1) h
 
 -- THE LAW: the table holds how often each number stands in the list, up to two
 times_used : (u l : List ℕ) (n : ℕ) → n < length u → get_or u n 0 ≤ 2 → get_or (used_all u l) n 0 ≡ min 2 (get_or u n 0 + times n l)
@@ -129,6 +141,46 @@ lowest_from_lem l n (suc left) h = go (dec_le 2 (times n l)) (lowest_from_lem l 
 pub lowest_is : (l : List ℕ) (n : ℕ) → n ≤ 256 → first_two 0 n (used_all zeros l) ≡ lowest_from 0 n l
 lowest_is l n h = lowest_from_lem l 0 n (omega arith)
 
+-- the same as a search of the library tells it
+first_from : (u : List ℕ) (n left : ℕ) → n + left ≤ length u → first_two n left u ≡ n + position_or_len (λ x. x == 2) (take left (drop n u))
+unfolding first_two
+first_from u n zero h = omega arith
+first_from u n (suc left) h = go (ℕ_discrete (get_or u n 0) 2) (first_from u (suc n) left (omega arith))
+  where
+    go : Dec (get_or u n 0 ≡ 2) → first_two (suc n) left u ≡ suc n + position_or_len (λ x. x == 2) (take left (drop (suc n) u))
+        → first_two n (suc left) u ≡ n + position_or_len (λ x. x == 2) (take (suc left) (drop n u))
+    go (yes e) f = rw (drop-cons u n 0 (omega arith), two_here n left u e, eq-eqb (get_or u n 0) 2 e) (omega arith)
+    go (no e) f = rw (drop-cons u n 0 (omega arith), two_later n left u e, ne_eqb (get_or u n 0) 2 e, f) (omega arith)
+
+module _ (u : List ℕ) (nodes : ℕ) (h : nodes ≤ length u) where
+  first_is : position_or_len (λ x. x == 2) (take nodes u) ≡ first_two 0 nodes u
+  first_is = let f = first_from u 0 nodes (omega arith) in omega (arith, f)
+
+  pub first_told : position (λ x. x == 2) (take nodes u) ≡ cond (ltb (first_two 0 nodes u) nodes) (Some (first_two 0 nodes u)) None
+  first_told = rw (first_is, length-take-le nodes u h) refl
+
+-- the lowest node of a sheet that is used twice
+unfoldable pub used_twice : Sheet → Option ℕ
+used_twice sh = cond (ltb (lowest_twice sh) (length sh.nodes)) (Some (lowest_twice sh)) None
+
+pub twice_some : (sh : Sheet) {n : ℕ} → Some n ≡ used_twice sh → (n ≡ lowest_twice sh) × (lowest_twice sh < length sh.nodes)
+unfolding used_twice
+twice_some sh {n} = go (dec_lt (lowest_twice sh) (length sh.nodes))
+  where
+    go : Dec (lowest_twice sh < length sh.nodes) → Some n ≡ cond (ltb (lowest_twice sh) (length sh.nodes)) (Some (lowest_twice sh)) None
+        → (n ≡ lowest_twice sh) × (lowest_twice sh < length sh.nodes)
+    go (yes h) e = let q = rw (lt-ltb (lowest_twice sh) (length sh.nodes) h) at e in (cc, h)
+    go (no h) e = let q = rw (le-ltb (lowest_twice sh) (length sh.nodes) (omega arith)) at e in absurd (cc)
+
+pub twice_none : (sh : Sheet) → None ≡ used_twice sh → length sh.nodes ≤ lowest_twice sh
+unfolding used_twice
+twice_none sh = go (dec_lt (lowest_twice sh) (length sh.nodes))
+  where
+    go : Dec (lowest_twice sh < length sh.nodes) → None ≡ cond (ltb (lowest_twice sh) (length sh.nodes)) (Some (lowest_twice sh)) None
+        → length sh.nodes ≤ lowest_twice sh
+    go (yes h) e = let q = rw (lt-ltb (lowest_twice sh) (length sh.nodes) h) at e in absurd (cc)
+    go (no h) e = omega arith
+
 -- n numbers are looked at
 pub record Searched (u : List ℕ) (nodes n : ℕ) : Type 0 where
   pub left : ℕ
@@ -164,11 +216,25 @@ module _ {u : List ℕ} {nodes : ℕ} where
 -- A SHEET THAT WAS READ
 
 pub record Fine (s : List ℕ) (t : Table) : Type 0 where
-  pub table : t ≡ table_of (read_sheet s)
-  pub zero : t.refusal ≡ 0
+  pub table : ok t ≡ map_result table_of (read_sheet s)
 
 pub fine_read : {s : List ℕ} {t : Table} → Fine s t → (sh : Sheet) × Reads s t sh
-fine_read {s} f = table_reads s f.table f.zero
+fine_read {s} f = table_reads s f.table
+
+-- the table is that of the sheet
+pub fine_table : {s : List ℕ} {t : Table} (f : Fine s t) → t ≡ table_of (fine_read f).0
+unfolding map_result
+fine_table {t = t} f =
+    let e : ok t ≡ map_result table_of (ok (fine_read f).0) = f.table ∙ ap (map_result table_of) (fine_read f).1.sheet in
+    cc
+
+-- and any table of the sheet is so
+pub fine_of : {s : List ℕ} {t : Table} {sh : Sheet} → read_sheet s ≡ ok sh → t ≡ table_of sh → Fine s t
+unfolding map_result
+fine_of e q = record { table = rw (e, q) refl }
+
+pub same_sheet : {s : List ℕ} {t : Table} {sh : Sheet} (f : Fine s t) → read_sheet s ≡ ok sh → (fine_read f).0 ≡ sh
+same_sheet f e = let r = (fine_read f).1.sheet in cc
 
 pub record Sizes (t : Table) : Type 0 where
   pub k : t.k ≤ 16
@@ -226,6 +292,25 @@ roots_are {s} {t} {sh} r =
 
 -- ITS CHILDREN, node by node
 
+nodes_few : (n : ℕ) (c g : ℕ → ℕ) → length (nodes_in n c g) ≤ n
+nodes_few zero c g = omega arith
+nodes_few (suc n) c g = go (eqb (c 0) 1) (nodes_few n (λ i. c (suc i)) (λ i. g (suc i)))
+  where
+    go : (b : Bool) → length (nodes_in n (λ i. c (suc i)) (λ i. g (suc i))) ≤ n
+        → length (keep b (g 0) (nodes_in n (λ i. c (suc i)) (λ i. g (suc i)))) ≤ suc n
+    go true h = omega arith
+    go false h = omega arith
+
+-- of any record
+pub named_few : (s : List ℕ) (p : ℕ) → (children_at s p).count ≤ 8
+unfolding children_at children_of
+named_few s p =
+    omega (
+      arith,
+      kind_narrow (get_or s (p + 0) 0),
+      nodes_few (kind_width (get_or s (p + 0) 0)) (part_at (get_or s (p + 0) 0)) (λ i. get_or s (p + i) 0),
+    )
+
 pick_few : (r : Role) (fs : List Field) → length (pick r fs) ≤ length fs
 pick_few r [] = omega arith
 pick_few r (f ∷ fs) = go (eqb (place f.role) (place r)) (pick r fs) (pick_few r fs)
@@ -270,7 +355,7 @@ named_there {s} {t} f {n} {p} {c} h e q =
     let z = children_few (node_of sh n) in
     let y = named_of (children (node_of sh n)) z in
     let w : c ≡ children_of (children (node_of sh n))
-    = q ∙ ap (children_at s) e ∙ children_told (made_there s f.table r.sheet n (omega (arith, r.nodes))) in
+    = q ∙ ap (children_at s) e ∙ children_told (made_there s (fine_table f) r.sheet n (omega (arith, r.nodes))) in
     rw w (record { few = omega (arith, y.0); many = y.0; are = y.1; long = y.2 })
 
 -- THE COUNT, as far as node n
@@ -289,6 +374,12 @@ pub record Counted (sh : Sheet) (n : ℕ) (u : List ℕ) : Type 0 where
 pub roots_few : {s : List ℕ} {t : Table} → Fine s t → length (roots_at s t) ≡ suc t.sections
 unfolding roots_at
 roots_few {s} {t} f = ap suc (listing_long t.sections (section_at s))
+
+pub counted_start : {s : List ℕ} {t : Table} (f : Fine s t) {u : List ℕ} → u ≡ used_all zeros (roots_at s t) → Counted (fine_read f).0 0 u
+counted_start f q = record {
+  few = omega arith;
+  so_far = q ∙ ap (used_all zeros) (roots_are (fine_read f).1 ∙ sym (append-nil (roots (fine_read f).0)));
+}
 
 pub counted_roots : {s : List ℕ} {t : Table} (f : Fine s t) {u ts b b' : List ℕ} {k : ℕ} → Wrote (roots_at s t) 0 b b' k → length b ≡ 9 → ts ≡ take k b'
     → u ≡ used_all zeros ts → Counted (fine_read f).0 0 u

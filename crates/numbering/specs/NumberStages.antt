@@ -1,7 +1,8 @@
 -- What `number` has found out, stage by stage, and what it then answers.
-use Rattle.std.specs.Prelude.{◌≡◌, List, ℕ, ◌≤◌, ◌<◌, length}
+use Rattle.std.specs.Prelude.{◌≡◌, cond, ltb, List, ℕ, ◌≤◌, ◌<◌, refl, length, take, Option, Some, None, ◌==◌}
+use Rattle.std.specs.List.{position}
 use Rattle.std.proofs.Common.{sym, ap, ◌∙◌, arith}
-use Rattle.value.specs.Result.{refusal}
+use Rattle.value.specs.Result.{refusal, map_result}
 use Rattle.report.specs.Writing.{Wrote, wrote_text}
 use Rattle.sheet.specs.declared.Table.{Table}
 use Rattle.sheet.specs.Sheet.{read_sheet}
@@ -11,14 +12,13 @@ use Rattle.sheet.proofs.Written.{Bytes}
 use Rattle.sheet.proofs.Ranging.{written_short}
 use Rattle.records.specs.declared.Anew.{Anew}
 use Rattle.numbering.specs.declared.Nodes.{Nodes}
-use Rattle.numbering.specs.declared.Numbered.TheVariants.{Done, Refused, Twice}
 use Rattle.preorder.specs.NumberingLaws.{uses}
 use Rattle.preorder.proofs.NumberingLaws.{uses_in, numbered_ranges}
 use Rattle.preorder.specs.Uses.{lowest_twice}
 use Rattle.preorder.proofs.Uses.{all_once}
 use Rattle.preorder.specs.NumberAnswer.{twice, number_answer, number_1, number_refused, number_twice, number_done}
-use Rattle.numbering.specs.Replies.{Answers, answers_no, answers_twice, answers_done}
-use Rattle.numbering.specs.Counting.{first_two, lowest_is, Fine, fine_read, Counts}
+use Rattle.numbering.specs.Replies.{Done, Refused, Twice, Answers, answers_no, answers_twice, answers_done}
+use Rattle.numbering.specs.Counting.{first_two, first_told, lowest_is, used_twice, twice_some, twice_none, Fine, fine_read, fine_sizes, Counts}
 use Rattle.numbering.specs.Meeting.{Single, Ordered}
 use Rattle.numbering.specs.Places.{Numbers, text_anew, anew_text}
 
@@ -26,11 +26,9 @@ module _ (s b : List ℕ) where
   pub no_room : length b < 2048 → Answers (number_answer s (length b)) (Refused 1) b b
   no_room h = answers_no (number_answer s (length b)) b (number_1 s (length b) h)
 
-  module _ (room : 2048 ≤ length b) {t : Table} where
-    pub no_sheet : t ≡ table_of (read_sheet s) → (t.refusal ≡ 0 → ⊥) → Answers (number_answer s (length b)) (Refused t.refusal) b b
-    no_sheet e f =
-        let q : t.refusal ≡ (table_of (read_sheet s)).refusal = ap (λ (x : Table). x.refusal) e in
-        answers_no (number_answer s (length b)) b (number_refused s (length b) room (table_refused s (λ z. f (q ∙ z)) ∙ ap refusal (sym q)))
+  module _ (room : 2048 ≤ length b) {c : ℕ} where
+    pub no_sheet : refusal c ≡ map_result table_of (read_sheet s) → Answers (number_answer s (length b)) (Refused c) b b
+    no_sheet e = answers_no (number_answer s (length b)) b (number_refused s (length b) room (table_refused s e))
 
 -- the lowest node that is used twice, as the table of uses tells it
 lowest_told : {s : List ℕ} {t : Table} (f : Fine s t) {u : List ℕ} {n : ℕ} → Counts s u → n ≡ first_two 0 t.nodes u → n ≡ lowest_twice (fine_read f).0
@@ -41,21 +39,30 @@ lowest_told f {u} c e =
     e ∙ ap (λ k. first_two 0 k u) r.nodes ∙ ap (first_two 0 (length sh.nodes)) (c.told sh r.sheet)
     ∙ lowest_is (uses sh) (length sh.nodes) (omega (arith, r.ranges.few_nodes))
 
-module _ {s : List ℕ} {t : Table} (f : Fine s t) {u : List ℕ} {n : ℕ} (c : Counts s u) (e : n ≡ first_two 0 t.nodes u) where
-  pub is_twice : (b : List ℕ) → 2048 ≤ length b → n < t.nodes → Answers (number_answer s (length b)) (Twice n) b b
-  is_twice b room h =
+same_below : {a b n m : ℕ} → a ≡ b → n ≡ m → cond (ltb a n) (Some a) None ≡ cond (ltb b m) (Some b) None
+same_below e q = rw (e, q) refl
+
+-- what the search for a node that is used twice has found
+pub twice_found : {s : List ℕ} {t : Table} (f : Fine s t) {u : List ℕ} → Counts s u → length u ≡ 256 → {r : Option ℕ}
+    → r ≡ position (λ x. x == 2) (take t.nodes u) → r ≡ used_twice (fine_read f).0
+unfolding used_twice
+twice_found f {u} c long e =
+    e ∙ first_told u _ (omega (arith, long, (fine_sizes f).nodes)) ∙ same_below (lowest_told f c refl) (fine_read f).1.nodes
+
+module _ {s : List ℕ} {t : Table} (f : Fine s t) where
+  pub is_twice : {n : ℕ} → Some n ≡ used_twice (fine_read f).0 → (b : List ℕ) → 2048 ≤ length b → Answers (number_answer s (length b)) (Twice n) b b
+  is_twice e b room =
       let r = (fine_read f).1 in
-      let q = lowest_told f c e in
-      answers_twice (number_answer s (length b)) b
-      (number_twice s (length b) room r.sheet (omega (arith, r.nodes)) ∙ ap twice (sym q))
+      let q = twice_some (fine_read f).0 e in
+      answers_twice (number_answer s (length b)) b (number_twice s (length b) room r.sheet q.1 ∙ ap twice (sym q.0))
 
-  none-twice : t.nodes ≤ n → length (fine_read f).0.nodes ≤ lowest_twice (fine_read f).0
-  none-twice h = omega (arith, lowest_told f c e, (fine_read f).1.nodes)
+  none-twice : None ≡ used_twice (fine_read f).0 → length (fine_read f).0.nodes ≤ lowest_twice (fine_read f).0
+  none-twice h = twice_none (fine_read f).0 h
 
-  pub is_single : t.nodes ≤ n → Single s t
+  pub is_single : None ≡ used_twice (fine_read f).0 → Single s t
   is_single h = record { fine = f; once = all_once (fine_read f).0 (none-twice h) (λ k i. uses_in (fine_read f).1.ranges i) }
 
-  pub is_done : (b : List ℕ) → 2048 ≤ length b → (h : t.nodes ≤ n) → Bytes s → {ns : Nodes} {m : Anew} {b' : List ℕ} {r : ℕ} → Ordered s ns → Numbers ns m
+  pub is_done : (b : List ℕ) → 2048 ≤ length b → (h : None ≡ used_twice (fine_read f).0) → Bytes s → {ns : Nodes} {m : Anew} {b' : List ℕ} {r : ℕ} → Ordered s ns → Numbers ns m
       → Wrote (text_anew s t m) 0 b b' r → Answers (number_answer s (length b)) (Done r) b b'
   unfolding is_single
   is_done b room h small met new w =

@@ -24,7 +24,7 @@ use Rattle.preorder.specs.Numbering.{node_of, roots, order, place_of, new_number
 use Rattle.preorder.proofs.Numbering.{order_in, root_met, children_met, main_met}
 use Rattle.preorder.specs.NumberingLaws.{Once, place_in, place_of_lem}
 use Rattle.preorder.proofs.NumberingLaws.{order_once}
-use Rattle.numbering.specs.Counting.{fine_read}
+use Rattle.numbering.specs.Counting.{fine_read, fine_table}
 use Rattle.numbering.specs.Meeting.{Single, Holds, Ordered, ordered_few}
 
 -- THE PLACE OF EACH NODE
@@ -132,7 +132,7 @@ module _ {s : List ℕ} {t : Table} (g : Single s t) (small : Bytes s) {ns : Nod
   unfolding numbered
   nodes_anew =
       ap (records_of s t.starts m) named-order
-      ∙ records_are s g.fine.table (fine_read g.fine).1.sheet small m (new_number sh) itself (order sh)
+      ∙ records_are s (fine_table g.fine) (fine_read g.fine).1.sheet small m (new_number sh) itself (order sh)
       (every_of (Renumbers sh m (new_number sh) itself) (order sh) renumbers)
 
   sections_anew : sections_of s t.sections m ≡ roots_of (numbered sh).sections

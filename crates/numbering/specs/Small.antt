@@ -7,15 +7,13 @@ use Rattle.sheet.specs.Laws.{sheet_ranges}
 use Rattle.preorder.specs.NumberAnswer.{Answer, done, refused, twice, number_answer}
 use Rattle.preorder.proofs.NumberingCalls.{numbered_told, numbered_short}
 use Rattle.preorder.proofs.UsedTwice.{twice_told}
-use Rattle.numbering.specs.declared.Numbered.{Numbered}
-use Rattle.numbering.specs.declared.Numbered.TheVariants.{Done, Twice}
-use Rattle.numbering.specs.Replies.{reply_of}
+use Rattle.numbering.specs.Replies.{Reply, Done, Twice, reply_of}
 
 module _ (s : List ℕ) (n : ℕ) where
   twice_small : {k : ℕ} → number_answer s n ≡ twice k → k < 200
   twice_small e = let u = twice_told s n e in omega (arith, u.inside, (sheet_ranges s u.read).few_nodes)
 
-  module _ {r : Numbered} (e : r ≡ reply_of (number_answer s n)) where
+  module _ {r : Reply} (e : r ≡ reply_of (number_answer s n)) where
     pub sheet_inside : {k : ℕ} → r ≡ Done k → k ≤ 1619
     unfolding reply_of
     sheet_inside {k} f = go (number_answer s n) refl (sym e ∙ f)

@@ -1,30 +1,45 @@
 //! One numbering for a sheet file: nodes are numbered as they are first met (document 02, request 12).
 #![tactic(auto)]
 
-ghost use Rattle.std.specs.Prelude.{◌≡◌, ◌≤◌, ◌<◌, length, set};
+ghost use Rattle.std.specs.Prelude.{◌≡◌, ◌≤◌, ◌<◌, ◌==◌, length, take};
+ghost use Rattle.std.specs.List.{position};
+ghost use Rattle.value.specs.Result.{ok};
+ghost use Rattle.sheet.specs.Sheet.{Sheet, read_sheet};
+ghost use Rattle.sheet.specs.Table.{table_of};
 ghost use Rattle.report.specs.Writing.{Wrote};
 ghost use Rattle.preorder.specs.NumberAnswer.{number_answer};
-ghost use Rattle.numbering.specs.Replies.{reply_of, output_of};
-ghost use Rattle.numbering.specs.Counting.{used, used_all, roots_at, first_two, Fine, Counts};
+ghost use Rattle.numbering.specs.Replies.{told, reply_of, output_of};
+ghost use Rattle.numbering.specs.Counting.{used, used_all, roots_at, used_twice, Fine, Counts};
+ghost use Rattle.numbering.specs.declared.Fault.TheVariants.{Refused};
 ghost use Rattle.numbering.specs.Meeting.{Single, Ordered};
 ghost use Rattle.numbering.specs.Places.{Placed, Numbers, text_anew};
 
 use records::Anew;
+use refusal::Refusal;
 use sheet::Table;
 
 /// The bytes of output that numbering takes.
 pub const OUTPUT: usize = 2_048;
 
-/// What numbering gives: the length of the sheet in the one numbering, which is at the front of the output; a refusal's number; or 81, with
-/// the lowest node that is used twice.
+/// Why a sheet has no numbering: a refusal; or 81, with the lowest node that is used twice.
 #[derive(Clone, Copy, Debug, PartialEq, Eq)]
-pub enum Numbered {
-    Done(usize),
-    Refused(u8),
+pub enum Fault {
+    Refused(Refusal),
     Twice(usize),
 }
 
-// A list of nodes: `count` numbers, at the front of `nodes`.
+impl From<Refusal> for Fault {
+    ghost from_gives = { λ e f. f ≡ Refused e };
+
+    fn from(refusal: Refusal) -> Fault {
+        Fault::Refused(refusal)
+    }
+}
+
+/// What numbering gives: the length of the sheet in the one numbering, which is at the front of the output; or why there is none.
+pub type Numbered = Result<usize, Fault>;
+
+// A list of nodes: `count` numbers, at the front of `nodes`. No heap in the core: so no Vec.
 #[derive(Clone, Copy, Debug, PartialEq, Eq)]
 struct Nodes {
     count: usize,
@@ -32,24 +47,34 @@ struct Nodes {
 }
 
 // One use more of node n, counted up to two.
-fn count_use(uses: &mut [u8; 256], n: u8)
+fn count_use(uses: &mut [u8; 256], n: usize)
     ensures { uses.new ≡ used uses.old n }
 {
-    let k = n as usize;
-    if 2 <= uses[k] {
+    if 256 <= n {
         return;
     }
-    uses[k] += 1;
+    if 2 <= uses[n] {
+        return;
+    }
+    uses[n] += 1;
 }
 
 // One use more of each of these nodes.
 fn count_all(uses: &mut [u8; 256], ns: &[u8])
     ensures { uses.new ≡ used_all uses.old ns.now }
 {
-    let mut i = 0;
-    while i < ns.len() {
-        count_use(uses, ns[i]);
-        i += 1;
+    for n in ns {
+        count_use(uses, usize::from(*n));
+    }
+}
+
+// One use more of the main root and of the root of each section.
+fn count_roots(uses: &mut [u8; 256], sheet: &[u8], t: Table)
+    ensures { uses.new ≡ used_all uses.old (roots_at sheet.now t) }
+{
+    count_use(uses, t.root);
+    for i in 0..t.sections {
+        count_use(uses, sheet::section_root(sheet, i));
     }
 }
 
@@ -59,48 +84,43 @@ fn write_roots(sheet: &[u8], t: Table, list: &mut [u8], at: usize) -> usize
     ensures { Wrote (roots_at sheet.now t) at list.old list.new result }
 {
     let mut end = report::byte(list, at, t.root as u8);
-    let mut i = 0;
-    while i < t.sections {
+    for i in 0..t.sections {
         let root = sheet::section_root(sheet, i);
         end = report::byte(list, end, root as u8);
-        i += 1;
     }
     end
 }
 
 // How often each node of a sheet is used as a child or a root, counted up to two.
 fn count_uses(sheet: &[u8], t: Table) -> [u8; 256]
-    requires { Fine sheet.now t }
-    ensures { Counts sheet.now result }
+    requires { t.nodes ≤ 200 }
+    ensures { Fine sheet.now t → Counts sheet.now result }
 {
     let mut uses = [0u8; 256];
-    let mut roots = [0u8; 9];
-    let k = write_roots(sheet, t, &mut roots, 0);
-    count_all(&mut uses, &roots[..k]);
-    let mut n = 0;
-    while n < t.nodes {
-        let c = sheet::children_at(sheet, t.starts[n]);
-        let nodes = c.nodes;
-        let count = c.count;
-        count_all(&mut uses, &nodes[..count]);
-        n += 1;
+    count_roots(&mut uses, sheet, t);
+    for start in &t.starts[..t.nodes] {
+        let c = sheet::children_at(sheet, *start);
+        count_all(&mut uses, &c.nodes[..c.count]);
     }
     uses
 }
 
-// The lowest node that is used twice; `nodes` where none is.
-fn lowest(uses: [u8; 256], nodes: usize) -> usize
+// The lowest of the first nodes that is used twice.
+fn lowest(uses: [u8; 256], nodes: usize) -> Option<usize>
     requires { nodes ≤ 256 }
-    ensures { result ≡ first_two 0 nodes uses }
+    ensures { result ≡ position (λ x. x == 2) (take nodes uses) }
 {
-    let mut n = 0;
-    while n < nodes {
-        if uses[n] == 2 {
-            return n;
-        }
-        n += 1;
+    uses[..nodes].iter().position(|times| *times == 2)
+}
+
+/// The lowest node of a sheet that is used twice, as a child or a root (81): of a sheet whose table this is.
+pub fn first_used_twice(sheet: &[u8], t: Table) -> Option<usize>
+    ensures { (sh : Sheet) → read_sheet sheet.now ≡ ok sh → t ≡ table_of sh → result ≡ used_twice sh }
+{
+    if 200 < t.nodes {
+        return None;
     }
-    n
+    lowest(count_uses(sheet, t), t.nodes)
 }
 
 // The nodes of a sheet in the order in which they are first met. Those still to be met stand at the end of `todo`, the next one first:
@@ -114,24 +134,16 @@ fn meet(sheet: &[u8], t: Table) -> Nodes
     write_roots(sheet, t, &mut todo, top);
     let mut nodes = [0u8; 256];
     let mut count = 0;
+    // A `for` is no plainer: how many rounds there are is known behind the last one.
     while top < 256 {
         let n = todo[top];
         nodes[count] = n;
         count += 1;
-        let c = sheet::children_at(sheet, t.starts[n as usize]);
-        let below = c.nodes;
-        let many = c.count;
-        top = top + 1 - many;
-        report::bytes(&mut todo, top, &below[..many]);
+        let c = sheet::children_at(sheet, t.starts[usize::from(n)]);
+        top = top + 1 - c.count;
+        report::bytes(&mut todo, top, &c.nodes[..c.count]);
     }
     Nodes { count, nodes }
-}
-
-// One entry of a table.
-fn set_place(places: &mut [u8; 256], n: u8, place: u8)
-    ensures { places.new ≡ set places.old n place }
-{
-    places[n as usize] = place;
 }
 
 // The place of each node of a list.
@@ -140,10 +152,8 @@ fn places(l: Nodes) -> [u8; 256]
     ensures { Placed l result }
 {
     let mut places = [0u8; 256];
-    let mut i = 0;
-    while i < l.count {
-        set_place(&mut places, l.nodes[i], i as u8);
-        i += 1;
+    for (i, n) in l.nodes[..l.count].iter().enumerate() {
+        places[usize::from(*n)] = i as u8;
     }
     places
 }
@@ -170,8 +180,7 @@ fn write(sheet: &[u8], t: Table, m: Anew, out: &mut [u8]) -> usize
     requires { Fine sheet.now t }
     ensures { Wrote (text_anew sheet.now t m) 0 out.old out.new result }
 {
-    let k = t.root;
-    let root = m.nodes[k];
+    let root = m.nodes[t.root];
     let mut end = report::bytes(out, 0, &[0x01u8, t.k as u8, root]);
     end = records::write_sections(sheet, t.sections, m, out, end);
     records::write_nodes(sheet, t, m, out, end)
@@ -181,20 +190,16 @@ fn write(sheet: &[u8], t: Table, m: Anew, out: &mut [u8]) -> usize
 /// below it before the next, and then from each section's root in turn. Nodes never met are dropped. Refused, and nothing is written:
 /// 1 an output under 2,048 bytes; the sheet's own refusals (10 to 14); 81, `Twice`, a node is used twice as a child or a root.
 pub fn number(sheet: &[u8], out: &mut [u8]) -> Numbered
-    ensures value { result ≡ reply_of (number_answer sheet.now (length out.old)) }
+    ensures value { told result ≡ reply_of (number_answer sheet.now (length out.old)) }
     ensures out_after { out.new ≡ output_of (number_answer sheet.now (length out.old)) out.old }
 {
     if out.len() < OUTPUT {
-        return Numbered::Refused(1);
+        return Err(Fault::Refused(Refusal::OutputSmall));
     }
-    let t = sheet::read_sheet(sheet);
-    if t.refusal != 0 {
-        return Numbered::Refused(t.refusal);
-    }
-    let n = lowest(count_uses(sheet, t), t.nodes);
-    if n < t.nodes {
-        return Numbered::Twice(n);
+    let t = sheet::read_sheet(sheet)?;
+    if let Some(n) = first_used_twice(sheet, t) {
+        return Err(Fault::Twice(n));
     }
     let m = in_order(meet(sheet, t));
-    Numbered::Done(write(sheet, t, m, out))
+    Ok(write(sheet, t, m, out))
 }

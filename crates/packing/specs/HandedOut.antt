@@ -1,15 +1,17 @@
 -- What is handed out in numbers and bytes that the caller lends.
-use Rattle.std.specs.Prelude.{◌≡◌, refl, List, ◌∷◌, ◌++◌, ℕ, suc, ◌+◌, ◌<◌, length, get_or, drop, set}
-use Rattle.std.proofs.Common.{sym, ap, ◌∙◌, add-one, length-set, drop-cons}
-use Rattle.std.proofs.Math.Seq.{append_snoc, set-append_seam}
+use Rattle.std.specs.Prelude.{◌≡◌, refl, List, [], ◌∷◌, ◌++◌, ℕ, zero, suc, ◌≤◌, length, take, drop}
+use Rattle.std.proofs.Common.{sym, ap, arith}
 use Rattle.starts.specs.declared.Found.{Found}
 use Rattle.starts.specs.declared.Found.TheVariants.{At, Refused}
 use Rattle.starts.specs.Starts.{firsts}
-use Rattle.starts.proofs.Lookup.{length-firsts, firsts_more}
 
 -- the first n of the numbers l at the front of the caller's t; those behind them do not change
 unfoldable pub handed : ℕ → (l t : List ℕ) → List ℕ
 handed n l t = firsts n l ++ drop n t
+
+-- likewise of items of any type, of which the list has n
+abbrev pub handed_over : {A : Type 0} → ℕ → (l t : List A) → List A
+handed_over n l t = take n l ++ drop n t
 
 -- a lookup found f: 0 and where the value starts and ends; or the refusal's number, and both numbers are what they were
 unfoldable pub found_number : Found → ℕ
@@ -31,29 +33,15 @@ pub record Lookup (f : Found) (r start start' end end' : ℕ) : Type 0 where
 
 -- WHAT SHOWS IT
 
--- i of the numbers l are handed out
-pub record Handing (l : List ℕ) (i : ℕ) (t t' : List ℕ) : Type 0 where
-  pub made : t' ≡ handed i l t
-  pub long : length t' ≡ length t
+firsts_are : (n : ℕ) (l : List ℕ) → n ≤ length l → firsts n l ≡ take n l
+firsts_are zero l h = refl
+firsts_are (suc n) [] h = absurd (omega arith)
+firsts_are (suc n) (a ∷ l) h = ap (λ (m : List ℕ). a ∷ m) (firsts_are n l (omega arith))
 
-pub handing_none : (l t : List ℕ) → Handing l 0 t t
+-- of numbers that are there
+pub handed_front : (n : ℕ) (l t : List ℕ) → n ≤ length l → handed_over n l t ≡ handed n l t
 unfolding handed
-handing_none l t = record { made = refl; long = refl }
-
-pub handing_more : {l : List ℕ} {i : ℕ} {t t' : List ℕ} → Handing l i t t' → i < length t → Handing l (i + 1) t (set t' i (get_or l i 0))
-unfolding handed
-handing_more {l} {i} {t} {t'} h k = record {
-  made =
-      let x = get_or l i 0 in
-      let e : set (firsts i l ++ drop i t) i x ≡ firsts i l ++ (x ∷ drop (suc i) t)
-      = rw (drop-cons t i 0 k) (ap (λ (j : ℕ). set (firsts i l ++ (get_or t i 0 ∷ drop (suc i) t)) j x) (sym (length-firsts i l))
-      ∙ set-append_seam (firsts i l) (get_or t i 0) (drop (suc i) t) x) in
-      ap (λ (m : List ℕ). set m i x) h.made ∙ e ∙ sym (rw (add-one, firsts_more i l) (append_snoc (firsts i l) x (drop (suc i) t)));
-  long = length-set t' i (get_or l i 0) ∙ h.long;
-}
-
-pub handing_all : {l : List ℕ} {i : ℕ} {t t' : List ℕ} → Handing l i t t' → (n : ℕ) → i ≡ n → t' ≡ handed n l t
-handing_all {l} {t = t} h n e = h.made ∙ ap (λ (j : ℕ). handed j l t) e
+handed_front n l t h = ap (λ (m : List ℕ). m ++ drop n t) (sym (firsts_are n l h))
 
 -- the returns of a lookup
 pub found_at : {f : Found} {a b : ℕ} → f ≡ At a b → (start end : ℕ) → Lookup f 0 start a end b

@@ -7,14 +7,17 @@ ghost use Rattle.packing.specs.Numbers.{Packs, Tells, low, WhyPacked};
 pub fn pack(refusal: u8, len: u16, count: u8, steps: u32) -> u64
     ensures { Packs refusal len count steps result }
 {
-    (refusal as u64) + 256 * (len as u64) + 16777216 * (count as u64) + 4294967296 * (steps as u64)
+    u64::from(refusal)
+        + 256 * u64::from(len)
+        + 16777216 * u64::from(count)
+        + 4294967296 * u64::from(steps)
 }
 
 /// The answer of a tool: the refusal in the low 8 bits, 0 for a success; what is told beside it in the next 16.
 pub fn pack_told(number: u8, told: u16) -> u64
     ensures { Tells number told result }
 {
-    (number as u64) + 256 * (told as u64)
+    u64::from(number) + 256 * u64::from(told)
 }
 
 /// The low 16 bits of a number, as what is told has room for.
@@ -28,5 +31,5 @@ pub fn low(n: usize) -> u16
 pub fn pack_why(refusal: u8, depth: u8, first: u16) -> u64
     ensures { WhyPacked refusal depth first result }
 {
-    (refusal as u64) + 256 * (depth as u64) + 65536 * (first as u64)
+    u64::from(refusal) + 256 * u64::from(depth) + 65536 * u64::from(first)
 }

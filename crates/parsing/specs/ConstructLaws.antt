@@ -1,40 +1,45 @@
 -- HOW THE ANSWER OF A CONSTRUCT follows from those of its parts: each law has the answers in the order of the code, and ends with the construct's own.
-use Rattle.std.specs.Prelude.{◌≡◌, Bool, true, false, cond, eqb, length, get_or, take, drop, set}
+use Rattle.std.specs.Prelude.{◌≡◌, Bool, true, false, length, get_or, take, set}
 use Rattle.std.proofs.Math.Path.{refl, ap}
 use Rattle.std.proofs.Common.{sym, subst, ◌∙◌, arith, mod-eq_of_lt, length-append, length-set, get_or-take, take-take, get_or-set_same, get_or-set_other}
+use Rattle.std.specs.Prelude.{Some, None}
 use Rattle.std.proofs.Math.Option.{Option}
 use mathlib.Core.List.{List, [], ◌∷◌, ◌++◌}
 use Prim.Native.Nat.{ℕ, zero, suc, ◌+◌, ◌*◌, ◌/◌, ◌%◌, ◌≤◌, ◌<◌}
 use Rattle.std.proofs.Math.Numerals.{add-one}
 use Rattle.std.proofs.lemmas.List.Edits.{sets}
 use Rattle.std.proofs.lemmas.List.{take-set-le}
-use borrow.Author.Tests.{ne_eqb, eq-eqb, le-leb, lt-leb, eqb-true}
+use borrow.Author.Tests.{ne_eqb, eq-eqb, le-leb, lt-leb}
 use Rattle.node.specs.declared.Node.{Node}
 use Rattle.node.specs.declared.Node.TheVariants as node
 use Rattle.node.specs.Kinds.{width, written}
 use Rattle.tokens.specs.Quoted.{bytes}
-use Rattle.tokens.specs.Tokens.{Token, word, digits, hash, mark, arrow, first, rest, word_of, mark_of, same}
+use Rattle.tokens.specs.Tokens.{Token, first, rest, word_of, mark_of, same}
 use Rattle.syntax.specs.Reader.{Out, ok, fault, ◌>>=◌, Name, Scope, scope, is_name, sent, symbol, keyword, bind, known, variable, test}
 use Rattle.syntax.specs.Reader.{Begin, nothing, a_false, a_true, a_let, a_case, an_each, a_pair, a_list, a_name, a_hash, a_number, word_begin}
 use Rattle.syntax.specs.Reader.{begin_of, behind_of, branch_of}
 use Rattle.syntax.specs.Reader.{whole, Nodes, Reader, room, begun, constant, pair_of, behind, back, front_of, list_by, list_of, let_in, amount_by, amount_of}
 use Rattle.syntax.specs.Reader.{truth_case, list_case, branches, case_of, each_of, named, shaped, parted}
 use Rattle.syntax.specs.Reader as reader
-use Rattle.tokens.specs.Ahead.{letter_first}
-use Rattle.lexing.specs.Lexing.{Between, ahead, part, token_at, Next}
+use Rattle.lexing.specs.Lexing.{Between, ahead, token_at, Next}
 use Rattle.parsing.specs.Cursor.{fault_at, entered, Told, on, fault_told, Behind, With, fault_same, Carries, carries_then, Goes, told_then}
 use Rattle.parsing.specs.Cursor as cursor
 use Rattle.parsing.specs.Names.{name_at, name_sent, stack_of, stack_kept}
-use Rattle.parsing.specs.Expect.{marked, mark_is, mark_at, mark_own, mark_other, Again, Binds, Named, Numbers, Number, IsVariable, IsTest}
+use Rattle.parsing.specs.Expect.{marked, mark_is, mark_own, mark_other, Again, Binds, Named, Numbers, Number, IsVariable, IsTest}
 use Rattle.parsing.specs.Expect.{IsCallee, resolve_by, callee_of, scope_at, fault_here}
 use Rattle.parsing.specs.Nodes.{Slots, slots_append, Kept, kept_refl, kept_fewer, kept_then, slots_kept}
 use Rattle.parsing.specs.Nodes.{none as no_slots}
-use Rattle.parsing.specs.Expressions.{begin_code, begin_by, bytes_in, behind_it, begin_coded, row_of, Stored, Below, Leafy, Var, Call}
+use Rattle.parsing.specs.Expressions.{begin_named, begin_by, said, lettered, begin_coded, begin_none, name_said}
+use Rattle.parsing.specs.Expressions.{number_kind, number_said, row_of, Stored, Below, Leafy, Var, Call}
 use Rattle.parsing.specs.Expressions.{Constant, goes_told, stored_kept, stored_more}
 use Rattle.parsing.specs.declared.cursor.Cursor.{Cursor}
+use Rattle.parsing.specs.declared.expr.Begin.{Begin as Begins}
+use Rattle.parsing.specs.declared.expr.Begin.TheVariants as begins
+use Rattle.lexing.specs.declared.Kind.{Kind}
+use Rattle.lexing.specs.declared.Kind.TheVariants as kind
 use Rattle.lexing.specs.declared.Lexeme.{Lexeme}
 use Rattle.parsing.specs.declared.expect.Scope.{Scope as Names}
-use Rattle.parsing.specs.Constructs.{Ready, Inner, Begun, Childless, Cased, Parsed, by_begin, Expr}
+use Rattle.parsing.specs.Constructs.{Ready, Inner, Begun, Cased, Parsed, by_begin, Expr}
 use Rattle.parsing.specs.Constructs.{Shaped, Pair, Listed, Front, Back, Let, Each, Case, Branch}
 use Rattle.parsing.specs.Constructs.{with_two, Default, Branches, Truth, Lists, together, two_of, Both, Two}
 
@@ -139,8 +144,9 @@ split_row i j = refl
 -- A PAIR
 pub pair_parsed : {s table : List ℕ} {sc : Names} {c : Cursor} {names slots names₁ slots₁ names₂ slots₂ slots₃ : List ℕ} {a m b r : Cursor}
     → Inner (length table) (length names) (length slots) (sc.base + sc.many) c
-    → Expr s table names slots sc (entered c) names₁ slots₁ a → Goes s (Behind s) (symbol (marked 44) 9) a m → Expr s table names₁ slots₁ sc m names₂ slots₂ b
-    → Goes s (Behind s) (symbol (marked 41) 10) b r → slots₃ ≡ sets slots₂ (8 * c.count) (row_of 22 ((c.count + 1) ∷ m.count ∷ []))
+    → Expr s table names slots sc (entered c) names₁ slots₁ a → Goes s (Behind s) (symbol (marked (kind.Mark 44)) 9) a m
+    → Expr s table names₁ slots₁ sc m names₂ slots₂ b
+    → Goes s (Behind s) (symbol (marked (kind.Mark 41)) 10) b r → slots₃ ≡ sets slots₂ (8 * c.count) (row_of 22 ((c.count + 1) ∷ m.count ∷ []))
     → Pair s table names slots sc c names₂ slots₃ r
 unfolding pair_of marked
 pair_parsed {s} {table} {sc} {c} {names} {slots} {names₁} {slots₁} {names₂} {slots₂} {slots₃} {a} {m} {b} {r} w ea gm eb ge st = record {
@@ -245,16 +251,16 @@ module _ {s : List ℕ} (c : Cursor) {t : Lexeme} (slots : List ℕ) {slots₁ :
 -- A LIST: the empty one
 pub list_empty : {s table : List ℕ} {sc : Names} {c : Cursor} {names slots slots₁ : List ℕ} {d r : Cursor} {t : Lexeme}
     → Inner (length table) (length names) (length slots) (sc.base + sc.many) c
-    → Next s c.at t → t.kind ≡ 93 → d ≡ cursor.behind c t.end 0 0 → slots₁ ≡ sets slots (8 * d.count) (row_of 19 []) → r ≡ entered d
+    → Next s c.at t → t.kind ≡ kind.Mark 93 → d ≡ cursor.behind c t.end 0 0 → slots₁ ≡ sets slots (8 * d.count) (row_of 19 []) → r ≡ entered d
     → Listed s table names slots sc c names slots₁ r
 unfolding list_of list_by width written marked
 list_empty {s} {c = c} {slots = slots} {t = t} w n k e st f =
     bare_parsed c slots n w.free w.ready.slots_long e 19 st f w.clear
-    (λ b g h. rw (n.token, mark_is s t, k, mark_own 93 refl) (bare_told c slots n w.free w.ready.slots_long e 19 st f node.Empty refl b))
+    (λ b g h. rw (n.token, mark_is s t, k, mark_own (kind.Mark 93) refl) (bare_told c slots n w.free w.ready.slots_long e 19 st f node.Empty refl b))
 
 -- or one with members
 pub list_front : {s table : List ℕ} {sc : Names} {c : Cursor} {names slots names₁ slots₁ : List ℕ} {r : Cursor} {t : Lexeme} → Next s c.at t
-    → (t.kind ≡ 93 → ⊥)
+    → (t.kind ≡ kind.Mark 93 → ⊥)
     → Front s table names slots sc c names₁ slots₁ r → Listed s table names slots sc c names₁ slots₁ r
 unfolding list_of list_by marked
 list_front {s} {t = t} n k e = record {
@@ -263,15 +269,15 @@ list_front {s} {t = t} n k e = record {
   few = e.few;
   below = e.below;
   kept = e.kept;
-  told = λ z b many f g. rw (n.token, mark_is s t, mark_other t.kind 93 k) (e.told z b many f g);
+  told = λ z b many f g. rw (n.token, mark_is s t, mark_other t.kind (kind.Mark 93) refl k) (e.told z b many f g);
 }
 
 -- THE REST OF A LIST
 module _ {s table : List ℕ} {sc : Names} {c : Cursor} {t : Lexeme} (n : Next s c.at t) (z : c.code ≡ 0) where
-  pub back_bar : {names slots names₁ slots₁ : List ℕ} {d b r : Cursor} → t.kind ≡ 124 → d ≡ cursor.behind c t.end 0 0
+  pub back_bar : {names slots names₁ slots₁ : List ℕ} {d b r : Cursor} → t.kind ≡ kind.Mark 124 → d ≡ cursor.behind c t.end 0 0
       → Expr s table names slots sc d names₁ slots₁ b
-      → Goes s (Behind s) (symbol (marked 93) 14) b r → Back s table names slots sc c names₁ slots₁ r
-  unfolding back behind_of behind mark_at marked same
+      → Goes s (Behind s) (symbol (marked (kind.Mark 93)) 14) b r → Back s table names slots sc c names₁ slots₁ r
+  unfolding back behind_of behind marked same
   back_bar {names} {slots} {names₁} {slots₁} {d} {b} {r} k e eb ge =
       let i : d.count ≡ c.count = rw e in
       let y : d.code ≡ 0 = rw e in
@@ -290,8 +296,8 @@ module _ {s table : List ℕ} {sc : Names} {c : Cursor} {t : Lexeme} (n : Next s
             { stands = ue; value = record { counted = ge.same ∙ ub.value.counted; some = ub.value.some; held = ub.value.held } }))));
       }
 
-  pub back_full : {names slots : List ℕ} → t.kind ≡ 44 → c.count ≡ 200 → Back s table names slots sc c names slots (fault_at c 94 t.at 72)
-  unfolding back behind_of behind mark_at same
+  pub back_full : {names slots : List ℕ} → t.kind ≡ kind.Mark 44 → c.count ≡ 200 → Back s table names slots sc c names slots (fault_at c 94 t.at 72)
+  unfolding back behind_of behind marked same
   back_full {names} {slots} k m = parsed_fault 94 t.at 72 (omega arith) z (λ b f g. rw (n.token, mark_is s t, k) (full f b))
     where
       full : (f : ℕ) → Between s c.at
@@ -300,9 +306,9 @@ module _ {s table : List ℕ} {sc : Names} {c : Cursor} {t : Lexeme} (n : Next s
       full zero b = unfold reader.read parted room in rw (eq-eqb c.count 200 m) (fault_here c n b (omega arith))
       full (suc f) b = unfold reader.read parted room in rw (eq-eqb c.count 200 m) (fault_here c n b (omega arith))
 
-  pub back_comma : {names slots names₁ slots₁ : List ℕ} {d r : Cursor} → t.kind ≡ 44 → c.count < 200 → d ≡ cursor.behind c t.end 0 0
+  pub back_comma : {names slots names₁ slots₁ : List ℕ} {d r : Cursor} → t.kind ≡ kind.Mark 44 → c.count < 200 → d ≡ cursor.behind c t.end 0 0
       → Front s table names slots sc d names₁ slots₁ r → Back s table names slots sc c names₁ slots₁ r
-  unfolding back behind_of behind mark_at same
+  unfolding back behind_of behind marked same
   back_comma {names} {slots} {names₁} {slots₁} {d} {r} k m e ef =
       let i : d.count ≡ c.count = rw e in
       let y : d.code ≡ 0 = rw e in
@@ -322,23 +328,24 @@ module _ {s table : List ℕ} {sc : Names} {c : Cursor} {t : Lexeme} (n : Next s
       goes (suc f) h many g i y l = unfold reader.read parted room in rw (ne_eqb c.count 200 (λ q. omega arith), n.behind, ← l, ← i)
           (ef.told y (rw l (n.here h)) (rw i many) f (omega arith))
 
-  pub back_end_full : {names slots : List ℕ} → t.kind ≡ 93 → c.count ≡ 200 → Back s table names slots sc c names slots (fault_at c 94 t.at 72)
-  unfolding back behind_of behind mark_at same room
+  pub back_end_full : {names slots : List ℕ} → t.kind ≡ kind.Mark 93 → c.count ≡ 200 → Back s table names slots sc c names slots (fault_at c 94 t.at 72)
+  unfolding back behind_of behind marked same room
   back_end_full k m = parsed_fault 94 t.at 72 (omega arith) z (λ b f g. rw (n.token, mark_is s t, k, eq-eqb c.count 200 m)
       (fault_here c n b (omega arith)))
 
-  pub back_end : {names slots slots₁ : List ℕ} {d r : Cursor} → length slots ≡ 1600 → t.kind ≡ 93 → c.count < 200 → d ≡ cursor.behind c t.end 0 0
+  pub back_end : {names slots slots₁ : List ℕ} {d r : Cursor} → length slots ≡ 1600 → t.kind ≡ kind.Mark 93 → c.count < 200 → d ≡ cursor.behind c t.end 0 0
       → slots₁ ≡ sets slots (8 * d.count) (row_of 19 []) → r ≡ entered d → Back s table names slots sc c names slots₁ r
-  unfolding back behind_of behind mark_at same room width written
+  unfolding back behind_of behind marked same room width written
   back_end {slots = slots} long k m e st f =
       bare_parsed c slots n m long e 19 st f z
       (λ b g h. rw (n.token, mark_is s t, k, ne_eqb c.count 200 (λ q. omega arith)) (bare_told c slots n m long e 19 st f node.Empty refl b))
 
-  pub back_none : {names slots : List ℕ} → c.count ≤ 200 → (t.kind ≡ 124 → ⊥) → (t.kind ≡ 44 → ⊥) → (t.kind ≡ 93 → ⊥)
+  pub back_none : {names slots : List ℕ} → c.count ≤ 200 → (t.kind ≡ kind.Mark 124 → ⊥) → (t.kind ≡ kind.Mark 44 → ⊥) → (t.kind ≡ kind.Mark 93 → ⊥)
       → Back s table names slots sc c names slots (fault_at c 90 t.at 13)
   unfolding back behind_of behind marked
   back_none few a b d = parsed_fault 90 t.at 13 few z (λ h f g.
-      rw (n.token, mark_is s t, mark_other t.kind 44 b, mark_other t.kind 124 a, mark_other t.kind 93 d) (fault_here c n h (omega arith)))
+      rw (n.token, mark_is s t, mark_other t.kind (kind.Mark 44) refl b, mark_other t.kind (kind.Mark 124) refl a, mark_other t.kind (kind.Mark 93) refl d)
+      (fault_here c n h (omega arith)))
 
 -- TWO NEW NAMES
 
@@ -359,7 +366,7 @@ stack_two s names names' base many b e f =
 get_below : {top : ℕ} (i : ℕ) (a b : List ℕ) → i < top → Below top a b → get_or b i 0 ≡ get_or a i 0
 get_below {top} i a b h x = sym (get_or-take top b i 0 h) ∙ ap (λ (l : List ℕ). get_or l i 0) x.same ∙ get_or-take top a i 0 h
 
-pub two_told : {s names names₁ names₂ : List ℕ} {sc : Names} (mk : ℕ) {d : ℕ} {c x m r : Cursor} → Binds s names sc.base sc.many c names₁ x
+pub two_told : {s names names₁ names₂ : List ℕ} {sc : Names} (mk : Kind) {d : ℕ} {c x m r : Cursor} → Binds s names sc.base sc.many c names₁ x
     → Goes s (Behind s) (symbol (marked mk) d) x m → Binds s names₁ sc.base (sc.many + 1) m names₂ r → Two s names sc (marked mk) d c names₂ r
 unfolding two_of
 two_told {s} {names} {names₁} {names₂} {sc} mk {d} {c} {x} {m} {r} bx gm by = record {
@@ -440,8 +447,10 @@ two_at t z b = rw b.tokens (t.told z b.here)
 -- A SPLIT
 pub let_parsed : {s table : List ℕ} {sc : Names} {c : Cursor} {names slots names₁ names₂ slots₂ names₃ names₄ slots₄ slots₅ : List ℕ} {o b p q a i r : Cursor}
     → Inner (length table) (length names) (length slots) (sc.base + sc.many) c
-    → Goes s (Behind s) (symbol (marked 40) 8) (entered c) o → Two s names sc (marked 44) 9 o names₁ b → Goes s (Behind s) (symbol (marked 41) 10) b p
-    → Goes s (Behind s) (symbol (marked 61) 4) p q → Expr s table names₁ slots sc q names₂ slots₂ a → Goes s (Behind s) (keyword (bytes "in") 15) a i
+    → Goes s (Behind s) (symbol (marked (kind.Mark 40)) 8) (entered c) o → Two s names sc (marked (kind.Mark 44)) 9 o names₁ b
+    → Goes s (Behind s) (symbol (marked (kind.Mark 41)) 10) b p
+    → Goes s (Behind s) (symbol (marked (kind.Mark 61)) 4) p q → Expr s table names₁ slots sc q names₂ slots₂ a
+    → Goes s (Behind s) (keyword (bytes "in") 15) a i
     → names₃ ≡ set (set names₂ (sc.base + sc.many) (get_or names₁ (sc.base + sc.many) 0)) (sc.base + sc.many + 1) (get_or names₁ (sc.base + sc.many + 1) 0)
     → Expr s table names₃ slots₂ (with_two sc) i names₄ slots₄ r
     → slots₅ ≡ sets slots₄ (8 * c.count) (row_of 25 ((c.count + 1) ∷ i.count ∷ []))
@@ -518,7 +527,7 @@ let_parsed {s} {table} {sc} {c} {names} {slots} {names₁} {names₂} {slots₂}
 
 -- AN ARROW AND AN EXPRESSION
 pub branch_parsed : {s table : List ℕ} {sc : Names} {c : Cursor} {names slots names₁ slots₁ : List ℕ} {a r : Cursor}
-    → Goes s (Behind s) (symbol (marked 65) 19) c a
+    → Goes s (Behind s) (symbol (marked kind.Arrow) 19) c a
     → Expr s table names slots sc a names₁ slots₁ r → Branch s table names slots sc c names₁ slots₁ r
 unfolding marked
 branch_parsed {s} {sc = sc} {c = c} {slots = slots} {slots₁ = slots₁} {r = r} ga e = record {
@@ -540,7 +549,7 @@ sees_sent s names {names₁} top h e =
     rw (j, name_sent s (length s) (omega arith))
 
 pub default_parsed : {s table : List ℕ} {top : ℕ} {c : Cursor} {names slots names₁ names₂ slots₂ : List ℕ} {a r : Cursor} → top < length names
-    → Goes s (Behind s) (symbol (marked 61) 4) c a → names₁ ≡ set names top (length s)
+    → Goes s (Behind s) (symbol (marked (kind.Mark 61)) 4) c a → names₁ ≡ set names top (length s)
     → Expr s table names₁ slots (record { base = top; many = 1; lost = 41 }) a names₂ slots₂ r → Default s table names slots top c names₂ slots₂ r
 unfolding marked
 default_parsed {s} {table} {top} {c} {names} {slots} {names₁} {names₂} {slots₂} {a} {r} inside ga st e = record {
@@ -632,12 +641,13 @@ again_told g z b e h = rw (b.tokens, ← e) (g.told z b.here (rw e h))
 pub lists_parsed : {s table : List ℕ} {n : ℕ} {sc : Names} {c : Cursor}
     {names slots names₁ slots₁ names₂ names₃ slots₃ names₄ slots₄ names₅ slots₅ slots₆ : List ℕ}
     {e a t o p q b u m x d k y f r : Cursor} → Cased (length table) (length names) (length slots) (sc.base + sc.many) n c → c.code ≡ 0
-    → Goes s (Behind s) (symbol (marked 93) 18) c e → Branch s table names slots sc e names₁ slots₁ a → Goes s (With s IsTest) (test 20 21) a t
-    → Goes s (Behind s) (symbol (marked 91) t.detail) t o → Two s names₁ sc (marked 124) 22 o names₂ p → Goes s (Behind s) (symbol (marked 93) 14) p q
+    → Goes s (Behind s) (symbol (marked (kind.Mark 93)) 18) c e → Branch s table names slots sc e names₁ slots₁ a → Goes s (With s IsTest) (test 20 21) a t
+    → Goes s (Behind s) (symbol (marked (kind.Mark 91)) t.detail) t o → Two s names₁ sc (marked (kind.Mark 124)) 22 o names₂ p
+    → Goes s (Behind s) (symbol (marked (kind.Mark 93)) 14) p q
     → Branch s table names₂ slots₁ (with_two sc) q names₃ slots₃ b
     → Goes s (With s IsTest) (test 24 25) b u → Goes s (Behind s) (keyword (bytes "default") u.detail) u m
     → Again s (get_or names₂ (sc.base + sc.many) 0) 26 m x → Default s table names₃ slots₃ (sc.base + sc.many) x names₄ slots₄ d
-    → Goes s (Behind s) (symbol (marked 44) 9) d k → Again s (get_or names₂ (sc.base + sc.many + 1) 0) 27 k y
+    → Goes s (Behind s) (symbol (marked (kind.Mark 44)) 9) d k → Again s (get_or names₂ (sc.base + sc.many + 1) 0) 27 k y
     → Default s table names₄ slots₄ (sc.base + sc.many) y names₅ slots₅ f → Goes s (Behind s) (keyword (bytes "end") 31) f r
     → slots₆ ≡ sets slots₅ (8 * n) (row_of 23 ((n + 1) ∷ c.count ∷ t.found % 256 ∷ q.count ∷ u.found % 256 ∷ x.count ∷ y.count ∷ []))
     → Lists s table n names slots sc c names₅ slots₆ r
@@ -815,9 +825,9 @@ no_names s names names' top lost = refl
 
 pub each_parsed : {s table : List ℕ} {sc : Names} {c : Cursor} {names slots names₁ slots₁ names₂ slots₂ slots₃ : List ℕ} {e o a m x q k r : Cursor}
     → Inner (length table) (length names) (length slots) (sc.base + sc.many) c
-    → Goes s (With s IsCallee) (callee_of (resolve_by s table)) (entered c) e → Goes s (Behind s) (symbol (marked 40) 8) e o
-    → Expr s table names slots sc o names₁ slots₁ a → Goes s (Behind s) (symbol (marked 44) 9) a m
-    → Goes s (With s (IsVariable sc)) (variable (scope_at s names₁ sc)) m x → Goes s (Behind s) (symbol (marked 41) 10) x q
+    → Goes s (With s IsCallee) (callee_of (resolve_by s table)) (entered c) e → Goes s (Behind s) (symbol (marked (kind.Mark 40)) 8) e o
+    → Expr s table names slots sc o names₁ slots₁ a → Goes s (Behind s) (symbol (marked (kind.Mark 44)) 9) a m
+    → Goes s (With s (IsVariable sc)) (variable (scope_at s names₁ sc)) m x → Goes s (Behind s) (symbol (marked (kind.Mark 41)) 10) x q
     → Goes s (Behind s) (keyword (bytes "default") 25) q k
     → Expr s table names₁ slots₁ (record { base = sc.base + sc.many; many = 0; lost = 42 }) k names₂ slots₂ r
     → slots₃ ≡ sets slots₂ (8 * c.count) (row_of 28 ((c.count + 1) ∷ e.found % 256 ∷ x.found % 256 ∷ k.count ∷ []))
@@ -923,7 +933,7 @@ module _ {s table : List ℕ} {n : ℕ} {sc : Names} {c : Cursor} where
   }
 
   module _ {t : Lexeme} (nx : Next s c.at t) (z : c.code ≡ 0) where
-    pub branches_none : {names slots : List ℕ} → c.count ≤ 200 → same (word_of (token_at s t)) (bytes "false") ≡ false → (t.kind ≡ 91 → ⊥)
+    pub branches_none : {names slots : List ℕ} → c.count ≤ 200 → same (word_of (token_at s t)) (bytes "false") ≡ false → (t.kind ≡ kind.Mark 91 → ⊥)
         → Branches s table n names slots sc c names slots (fault_at c 90 t.at 17)
     unfolding branch_of branches marked
     branches_none {names} {slots} few e k = record {
@@ -932,7 +942,7 @@ module _ {s table : List ℕ} {n : ℕ} {sc : Names} {c : Cursor} where
       few = few;
       below = below_refl _ names;
       kept = kept_refl n slots;
-      told = λ _ h many x some held count f g. rw (nx.token, e, mark_is s t, mark_other t.kind 91 k) (fault_here c nx h (omega arith));
+      told = λ _ h many x some held count f g. rw (nx.token, e, mark_is s t, mark_other t.kind (kind.Mark 91) refl k) (fault_here c nx h (omega arith));
     }
 
     module _ {names slots names₁ slots₁ : List ℕ} {d r : Cursor} (e : d ≡ cursor.behind c t.end 0 0) where
@@ -950,7 +960,7 @@ module _ {s table : List ℕ} {n : ℕ} {sc : Names} {c : Cursor} where
             (w.told (moved c e).code_is (rw (moved c e).at_is (nx.here h)) many x some held ((moved c e).count_is ∙ count) f g);
       }
 
-      pub branches_lists : same (word_of (token_at s t)) (bytes "false") ≡ false → t.kind ≡ 91 → Lists s table n names slots sc d names₁ slots₁ r
+      pub branches_lists : same (word_of (token_at s t)) (bytes "false") ≡ false → t.kind ≡ kind.Mark 91 → Lists s table n names slots sc d names₁ slots₁ r
           → Branches s table n names slots sc c names₁ slots₁ r
       unfolding branch_of branches marked
       branches_lists k m w = record {
@@ -960,29 +970,41 @@ module _ {s table : List ℕ} {n : ℕ} {sc : Names} {c : Cursor} where
         below = w.below;
         kept = w.kept;
         told = λ _ h many x some held count f g.
-            rw (nx.token, k, mark_is s t, m, mark_own 91 refl, nx.behind, ← (moved c e).at_is)
+            rw (nx.token, k, mark_is s t, m, mark_own (kind.Mark 91) refl, nx.behind, ← (moved c e).at_is)
             (w.told (moved c e).code_is (rw (moved c e).at_is (nx.here h)) many x some held ((moved c e).count_is ∙ count) f g);
       }
 
 -- AN EXPRESSION, by what it begins with
-name_bytes : (s : List ℕ) (t : Lexeme) → t.kind ≡ 97 → bytes_in (token_at s t) ≡ word_of (token_at s t)
-unfolding token_at bytes_in word_of
-name_bytes s t k = rw k
-
-second_mark : {s : List ℕ} {t : Lexeme} {b : ℕ} {c : Cursor} {u : Lexeme} → Begun s t b c → Next s t.end u
-    → mark_of (first (rest (ahead s c.at))) ≡ mark_at u.kind
+second_mark : {s : List ℕ} {t : Lexeme} {b : Begins} {c : Cursor} {u : Lexeme} → Begun s t b c → Next s t.end u
+    → mark_of (first (rest (ahead s c.at))) ≡ marked u.kind
 second_mark {s} {u = u} g m = rw (g.is_next.behind, m.token) (mark_is s u)
 
-begin_is : {s : List ℕ} {t : Lexeme} {b : ℕ} {c : Cursor} → Begun s t b c → (k : ℕ) → b ≡ k
-    → begin_of (first (ahead s c.at)) ≡ begin_by k (bytes_in (token_at s t)) (behind_it (token_at s t))
-begin_is {s} {t} w k e = rw w.is_next.token (begin_coded (token_at s t) ∙ rw (← w.coded, e))
+begin_is : {s : List ℕ} {t : Lexeme} {b : Begins} {c : Cursor} → Begun s t b c
+    → begin_of (first (ahead s c.at)) ≡ begin_by b (said (begin_of (token_at s t))) (lettered (begin_of (token_at s t)))
+begin_is {s} {t} w = rw w.is_next.token (begin_coded (begin_of (token_at s t)) w.coded)
 
-module _ {s table : List ℕ} {sc : Names} {c : Cursor} {t : Lexeme} {b : ℕ} (g : Begun s t b c) (z : c.code ≡ 0) where
-  shape_inner : {D : Reader → Scope → ℕ → List Token → Nodes} {names slots names₁ slots₁ : List ℕ} {d r : Cursor} (k : ℕ)
+-- a node that one leaf says
+from_leaf : {s table : List ℕ} {sc : Names} {c : Cursor} → c.code ≡ 0 → {names slots slots₁ : List ℕ} {r : Cursor} → c.count < 200 → r.count ≡ c.count + 1
+    → Kept c.count slots slots₁
+    → (Between s c.at → sc.many ≤ 256 → (f : ℕ)
+    → Told s (With s (Stored slots₁ c.count)) (by_begin (resolve_by s table) (reader.read (resolve_by s table) f) (scope_at s names sc) c.count
+    (ahead s c.at)) r)
+    → Shaped s table names slots sc c names slots₁ r
+from_leaf z {names} few e k t = record {
+  carries = λ q. absurd (q z);
+  later = omega arith;
+  few = omega arith;
+  below = below_refl _ names;
+  kept = k;
+  told = λ q h many f m. t h (omega arith) f;
+}
+
+module _ {s table : List ℕ} {sc : Names} {c : Cursor} {t : Lexeme} (z : c.code ≡ 0) where
+  shape_inner : {D : Reader → Scope → ℕ → List Token → Nodes} {names slots names₁ slots₁ : List ℕ} {d r : Cursor} {b : Begins}
       → ((rd : Reader) (S : Scope) (n : ℕ) (ts : List Token) (w : List ℕ) (l : Bool)
-      → shaped (resolve_by s table) rd S n ts (begin_by k w l) ≡ D rd S n (rest ts))
-      → b ≡ k → d ≡ cursor.behind c t.end 0 0 → Parsed 1 D s table names slots sc d names₁ slots₁ r → Shaped s table names slots sc c names₁ slots₁ r
-  shape_inner {names = names} {d = d} k eq e f w =
+      → shaped (resolve_by s table) rd S n ts (begin_by b w l) ≡ D rd S n (rest ts))
+      → Begun s t b c → d ≡ cursor.behind c t.end 0 0 → Parsed 1 D s table names slots sc d names₁ slots₁ r → Shaped s table names slots sc c names₁ slots₁ r
+  shape_inner {names = names} {d = d} eq g f w =
       let i : d.count ≡ c.count = rw f in
       let y : d.code ≡ 0 = rw f in
       let l : d.at ≡ t.end = rw f in
@@ -992,73 +1014,63 @@ module _ {s table : List ℕ} {sc : Names} {c : Cursor} {t : Lexeme} {b : ℕ} (
         few = w.few;
         below = w.below;
         kept = rw i at w.kept;
-        told = λ q h many f m. rw (begin_is g k e, eq _ _ _ _ _ _, g.is_next.behind, ← l, ← i)
+        told = λ q h many f m. rw (begin_is g, eq _ _ _ _ _ _, g.is_next.behind, ← l, ← i)
             (w.told y (rw l (g.is_next.here h)) (rw i many) f (omega arith));
       }
 
   module _ {names slots names₁ slots₁ : List ℕ} {d r : Cursor} where
-    pub shaped_let : b ≡ 3 → d ≡ cursor.behind c t.end 0 0 → Let s table names slots sc d names₁ slots₁ r → Shaped s table names slots sc c names₁ slots₁ r
-    unfolding shaped begin_by
-    shaped_let = shape_inner 3 (λ rd S n ts w l. refl)
-
-    pub shaped_case : b ≡ 4 → d ≡ cursor.behind c t.end 0 0 → Case s table names slots sc d names₁ slots₁ r → Shaped s table names slots sc c names₁ slots₁ r
-    unfolding shaped begin_by
-    shaped_case = shape_inner 4 (λ rd S n ts w l. refl)
-
-    pub shaped_each : b ≡ 5 → d ≡ cursor.behind c t.end 0 0 → Each s table names slots sc d names₁ slots₁ r → Shaped s table names slots sc c names₁ slots₁ r
-    unfolding shaped begin_by
-    shaped_each = shape_inner 5 (λ rd S n ts w l. refl)
-
-    pub shaped_pair : b ≡ 6 → d ≡ cursor.behind c t.end 0 0 → Pair s table names slots sc d names₁ slots₁ r → Shaped s table names slots sc c names₁ slots₁ r
-    unfolding shaped begin_by
-    shaped_pair = shape_inner 6 (λ rd S n ts w l. refl)
-
-    pub shaped_list : b ≡ 7 → d ≡ cursor.behind c t.end 0 0 → Listed s table names slots sc d names₁ slots₁ r
+    pub shaped_let : Begun s t begins.Let c → d ≡ cursor.behind c t.end 0 0 → Let s table names slots sc d names₁ slots₁ r
         → Shaped s table names slots sc c names₁ slots₁ r
     unfolding shaped begin_by
-    shaped_list = shape_inner 7 (λ rd S n ts w l. refl)
+    shaped_let = shape_inner (λ rd S n ts w l. refl)
+
+    pub shaped_case : Begun s t begins.Case c → d ≡ cursor.behind c t.end 0 0 → Case s table names slots sc d names₁ slots₁ r
+        → Shaped s table names slots sc c names₁ slots₁ r
+    unfolding shaped begin_by
+    shaped_case = shape_inner (λ rd S n ts w l. refl)
+
+    pub shaped_each : Begun s t begins.Each c → d ≡ cursor.behind c t.end 0 0 → Each s table names slots sc d names₁ slots₁ r
+        → Shaped s table names slots sc c names₁ slots₁ r
+    unfolding shaped begin_by
+    shaped_each = shape_inner (λ rd S n ts w l. refl)
+
+    pub shaped_pair : Begun s t begins.Pair c → d ≡ cursor.behind c t.end 0 0 → Pair s table names slots sc d names₁ slots₁ r
+        → Shaped s table names slots sc c names₁ slots₁ r
+    unfolding shaped begin_by
+    shaped_pair = shape_inner (λ rd S n ts w l. refl)
+
+    pub shaped_list : Begun s t begins.List c → d ≡ cursor.behind c t.end 0 0 → Listed s table names slots sc d names₁ slots₁ r
+        → Shaped s table names slots sc c names₁ slots₁ r
+    unfolding shaped begin_by
+    shaped_list = shape_inner (λ rd S n ts w l. refl)
 
   -- FALSE AND TRUE
-  pub leaf_false : {names slots slots₁ : List ℕ} {d r : Cursor} → b ≡ 1 → c.count < 200 → length slots ≡ 1600 → d ≡ cursor.behind c t.end 0 0
+  pub leaf_false : {names slots slots₁ : List ℕ} {d r : Cursor} → Begun s t begins.False c → c.count < 200 → length slots ≡ 1600 → d ≡ cursor.behind c t.end 0 0
       → slots₁ ≡ sets slots (8 * d.count) (row_of 17 []) → r ≡ entered d → Shaped s table names slots sc c names slots₁ r
   unfolding shaped begin_by width written
-  leaf_false {slots = slots} e few long f st m =
-      bare_parsed c slots g.is_next few long f 17 st m z (λ h i j. rw (begin_is g 1 e) (bare_told c slots g.is_next few long f 17 st m node.False refl h))
+  leaf_false {slots = slots} g few long f st m =
+      bare_parsed c slots g.is_next few long f 17 st m z (λ h i j. rw (begin_is g) (bare_told c slots g.is_next few long f 17 st m node.False refl h))
 
-  pub leaf_true : {names slots slots₁ : List ℕ} {d r : Cursor} → b ≡ 2 → c.count < 200 → length slots ≡ 1600 → d ≡ cursor.behind c t.end 0 0
+  pub leaf_true : {names slots slots₁ : List ℕ} {d r : Cursor} → Begun s t begins.True c → c.count < 200 → length slots ≡ 1600 → d ≡ cursor.behind c t.end 0 0
       → slots₁ ≡ sets slots (8 * d.count) (row_of 18 []) → r ≡ entered d → Shaped s table names slots sc c names slots₁ r
   unfolding shaped begin_by width written
-  leaf_true {slots = slots} e few long f st m =
-      bare_parsed c slots g.is_next few long f 18 st m z (λ h i j. rw (begin_is g 2 e) (bare_told c slots g.is_next few long f 18 st m node.True refl h))
+  leaf_true {slots = slots} g few long f st m =
+      bare_parsed c slots g.is_next few long f 18 st m z (λ h i j. rw (begin_is g) (bare_told c slots g.is_next few long f 18 st m node.True refl h))
 
   -- A VARIABLE
-  from_leaf : {names slots slots₁ : List ℕ} {r : Cursor} → c.count < 200 → r.count ≡ c.count + 1 → Kept c.count slots slots₁
-      → (Between s c.at → sc.many ≤ 256 → (f : ℕ)
-      → Told s (With s (Stored slots₁ c.count)) (by_begin (resolve_by s table) (reader.read (resolve_by s table) f) (scope_at s names sc) c.count
-      (ahead s c.at)) r)
-      → Shaped s table names slots sc c names slots₁ r
-  from_leaf {names} few e k t = record {
-    carries = λ q. absurd (q z);
-    later = omega arith;
-    few = omega arith;
-    below = below_refl _ names;
-    kept = k;
-    told = λ q h many f m. t h (omega arith) f;
-  }
-
-  pub leaf_hash : {names slots slots₁ : List ℕ} {r : Cursor} → b ≡ 9 → c.count < 200 → Var s names slots sc c slots₁ r
+  pub leaf_hash : {names slots slots₁ : List ℕ} {r : Cursor} → Begun s t begins.Hash c → c.count < 200 → Var s names slots sc c slots₁ r
       → Shaped s table names slots sc c names slots₁ r
   unfolding shaped begin_by
-  leaf_hash e few v = from_leaf few v.later v.kept (λ h many f. rw (begin_is g 9 e) (v.told z h many))
+  leaf_hash g few v = from_leaf z few v.later v.kept (λ h many f. rw (begin_is g) (v.told z h many))
 
   -- a name: of a variable, or of a section that is called
-  module _ (e : b ≡ 8) (k : t.kind ≡ 97) {u : Lexeme} (m : Next s t.end u) where
-    pub leaf_name : {names slots slots₁ : List ℕ} {r : Cursor} → (u.kind ≡ 40 → ⊥) → c.count < 200 → Var s names slots sc c slots₁ r
+  module _ (g : Begun s t begins.Name c) {u : Lexeme} (m : Next s t.end u) where
+    pub leaf_name : {names slots slots₁ : List ℕ} {r : Cursor} → (u.kind ≡ kind.Mark 40 → ⊥) → c.count < 200 → Var s names slots sc c slots₁ r
         → Shaped s table names slots sc c names slots₁ r
     unfolding shaped begin_by named marked
-    leaf_name q few v = from_leaf few v.later v.kept (λ h many f. rw (begin_is g 8 e, second_mark g m, mark_other u.kind 40 q) (v.told z h many))
+    leaf_name q few v = from_leaf z few v.later v.kept (λ h many f. rw (begin_is g, second_mark g m, mark_other u.kind (kind.Mark 40) refl q) (v.told z h many))
 
-    pub leaf_call : {names slots slots₁ : List ℕ} {d r : Cursor} → u.kind ≡ 40 → c.count < 200 → d ≡ cursor.behind c u.end 0 0
+    pub leaf_call : {names slots slots₁ : List ℕ} {d r : Cursor} → u.kind ≡ kind.Mark 40 → c.count < 200 → d ≡ cursor.behind c u.end 0 0
         → Call s table names slots sc t d slots₁ r → Shaped s table names slots sc c names slots₁ r
     unfolding shaped begin_by named marked
     leaf_call {names} {slots} {slots₁} {d} {r} q few f v =
@@ -1066,21 +1078,16 @@ module _ {s table : List ℕ} {sc : Names} {c : Cursor} {t : Lexeme} {b : ℕ} (
         let y : d.code ≡ 0 = rw f in
         let l : d.at ≡ u.end = rw f in
         let o : rest (rest (ahead s c.at)) ≡ ahead s d.at = rw (g.is_next.behind, m.behind, l) in
-        from_leaf few (v.later ∙ ap (λ (n : ℕ). n + 1) i) (rw i at v.kept) (λ h many x.
-        rw (begin_is g 8 e, second_mark g m, q, mark_own 40 refl, name_bytes s t k, o, ← i)
+        from_leaf z few (v.later ∙ ap (λ (n : ℕ). n + 1) i) (rw i at v.kept) (λ h many x.
+        rw (begin_is g, second_mark g m, q, mark_own (kind.Mark 40) refl, name_said s t g.coded, o, ← i)
         (v.told y (rw l (m.here (g.is_next.here h))) many (length (ahead s c.at)) (g.is_next.place h)))
 
 -- A NUMBER, or an amount and what it is added to
-digit_bytes : (s : List ℕ) (t : Lexeme) → t.kind ≡ 48
-    → (bytes_in (token_at s t) ≡ part s t.at t.end) × (behind_it (token_at s t) ≡ letter_first (drop t.end s))
-unfolding token_at bytes_in behind_it
-digit_bytes s t k = (rw k, rw k)
-
 add_row : {a i v w : ℕ} → a ≡ i → w ≡ v → v ≤ 65535 → take (width (node.Add i v)) (row_of 27 (a ∷ w / 256 ∷ w % 256 ∷ [])) ≡ written (node.Add i v)
 unfolding width written
 add_row p q r = rw (p, q)
 
-module _ {s : List ℕ} (table : List ℕ) (sc : Names) {c : Cursor} {t : Lexeme} {v : Cursor} (g : Begun s t 10 c) (k : t.kind ≡ 48) (z : c.code ≡ 0)
+module _ {s : List ℕ} (table : List ℕ) (sc : Names) {c : Cursor} {t : Lexeme} {v : Cursor} (g : Begun s t begins.Number c) (z : c.code ≡ 0)
     (gn : Numbers s t.at t.end 4294967295 60 c v) where
   -- the number, and then
   number_then : (names : List ℕ) {slots' : List ℕ} {r : Cursor} (f : ℕ) → Between s c.at → Carries v r
@@ -1090,7 +1097,8 @@ module _ {s : List ℕ} (table : List ℕ) (sc : Names) {c : Cursor} {t : Lexeme
       (ahead s c.at)) r
   unfolding shaped begin_by
   number_then names f h carry next =
-      rw (begin_is g 10 refl, (digit_bytes s t k).0, (digit_bytes s t k).1, g.is_next.behind)
+      let k = number_said s t (number_kind s t g.coded) in
+      rw (begin_is g, k.0, k.1, g.is_next.behind)
       (told_then _ (gn.told (length (ahead s c.at)) 0 (let e = g.is_next.place h in omega arith)) carry next)
 
   pub amount_fault : {names slots : List ℕ} → c.count ≤ 200 → (v.code ≡ 0 → ⊥) → Shaped s table names slots sc c names slots v
@@ -1104,7 +1112,7 @@ module _ {s : List ℕ} (table : List ℕ) (sc : Names) {c : Cursor} {t : Lexeme
   }
 
   module _ (y : v.code ≡ 0) {p : Lexeme} (m : Next s t.end p) where
-    pub amount_constant : {names slots slots₁ : List ℕ} {r : Cursor} → c.count < 200 → (p.kind ≡ 43 → ⊥) → r ≡ entered v
+    pub amount_constant : {names slots slots₁ : List ℕ} {r : Cursor} → c.count < 200 → (p.kind ≡ kind.Mark 43 → ⊥) → r ≡ entered v
         → (v.found ≤ 4294967295 → Constant slots v.count v.found slots₁) → Kept v.count slots slots₁ → Shaped s table names slots sc c names slots₁ r
     unfolding amount_of amount_by marked
     amount_constant {names} {slots} {slots₁} {r} few h e st k =
@@ -1117,7 +1125,7 @@ module _ {s : List ℕ} (table : List ℕ) (sc : Names) {c : Cursor} {t : Lexeme
           below = below_refl _ names;
           kept = rw i at k;
           told = λ q b many f o. number_then names f b (λ a. absurd (a y)) (λ x _ u.
-              rw (m.token, mark_is s p, mark_other p.kind 43 h) (constant_told x u b j e (λ l. rw i at (st l))));
+              rw (m.token, mark_is s p, mark_other p.kind (kind.Mark 43) refl h) (constant_told x u b j e (λ l. rw i at (st l))));
         }
       where
         constant_told : (x : ℕ) → Number t.end 4294967295 x v → Between s c.at → r.count ≡ c.count + 1 → r ≡ entered v
@@ -1133,7 +1141,7 @@ module _ {s : List ℕ} (table : List ℕ) (sc : Names) {c : Cursor} {t : Lexeme
               value = record { counted = j; some = omega arith; held = w };
             })
 
-    pub amount_large : {names slots : List ℕ} → c.count ≤ 200 → p.kind ≡ 43 → 65535 < v.found
+    pub amount_large : {names slots : List ℕ} → c.count ≤ 200 → p.kind ≡ kind.Mark 43 → 65535 < v.found
         → Shaped s table names slots sc c names slots (fault_at c 93 p.at 63)
     unfolding amount_of amount_by marked
     amount_large {names} {slots} few k h = record {
@@ -1144,11 +1152,12 @@ module _ {s : List ℕ} (table : List ℕ) (sc : Names) {c : Cursor} {t : Lexeme
       kept = kept_refl c.count slots;
       told = λ q b many f o. number_then names f b (λ a. absurd (a y)) (λ x _ u.
           let a = u.is_found in
-          rw (m.token, mark_is s p, k, mark_own 43 refl, lt-leb x 65535 (omega arith))
+          rw (m.token, mark_is s p, k, mark_own (kind.Mark 43) refl, lt-leb x 65535 (omega arith))
           (fault_told c 93 (length (ahead s t.end)) 0 63 p.at (omega arith) (let i = m.place (g.is_next.here b) in omega arith)));
     }
 
-    pub amount_added : {names slots names₁ slots₁ slots₂ : List ℕ} {d r : Cursor} → c.count < 200 → length slots ≡ 1600 → p.kind ≡ 43 → v.found ≤ 65535
+    pub amount_added : {names slots names₁ slots₁ slots₂ : List ℕ} {d r : Cursor} → c.count < 200 → length slots ≡ 1600 → p.kind ≡ kind.Mark 43
+        → v.found ≤ 65535
         → d ≡ entered (cursor.behind c p.end 0 0) → Expr s table names slots sc d names₁ slots₁ r
         → slots₂ ≡ sets slots₁ (8 * c.count) (row_of 27 ((c.count + 1) ∷ v.found / 256 ∷ v.found % 256 ∷ []))
         → Shaped s table names slots sc c names₁ slots₂ r
@@ -1165,7 +1174,7 @@ module _ {s : List ℕ} (table : List ℕ) (sc : Names) {c : Cursor} {t : Lexeme
           kept = kept_then (kept_fewer (omega arith) ea.kept) (stored_kept slots₁ few long₁ row refl st);
           told = λ q b many f o. number_then names f b (λ a. absurd (a y)) (λ x _ u.
               let a = u.is_found in
-              rw (m.token, mark_is s p, k, mark_own 43 refl, le-leb x 65535 (omega arith))
+              rw (m.token, mark_is s p, k, mark_own (kind.Mark 43) refl, le-leb x 65535 (omega arith))
               (told_then _ (part_told ea j (record { here = rw l (m.here (g.is_next.here b)); tokens = rw l m.behind }) (i ∙ add-one c.count) refl
               (omega arith) f (omega arith))
               (λ a. fault_same r) (λ (w, ts) zr ur.
@@ -1187,66 +1196,53 @@ module _ {s : List ℕ} (table : List ℕ) (sc : Names) {c : Cursor} {t : Lexeme
         long₁ = ea.kept.long ∙ long
 
 -- ANY EXPRESSION
-begun-room : (n : ℕ) (ts : List Token) (b : Begin) (f : Begin → Nodes) → (begin_code b ≡ 0 → ⊥) → begun n ts b f ≡ room n ts (λ u. f b)
-unfolding begun begin_code
-begun-room n ts nothing f h = absurd (h refl)
-begun-room n ts a_false f h = refl
-begun-room n ts a_true f h = refl
-begun-room n ts a_let f h = refl
-begun-room n ts a_case f h = refl
-begun-room n ts an_each f h = refl
-begun-room n ts a_pair f h = refl
-begun-room n ts a_list f h = refl
-begun-room n ts (a_name w) f h = refl
-begun-room n ts (a_hash ds l) f h = refl
-begun-room n ts (a_number ds l) f h = refl
-
-begun_none : (n : ℕ) (ts : List Token) (b : Begin) (f : Begin → Nodes) → begin_code b ≡ 0 → begun n ts b f ≡ fault 90 (length ts) 0 5
-unfolding begun begin_code
-begun_none n ts nothing f h = refl
-begun_none n ts a_false f h = absurd (omega arith)
-begun_none n ts a_true f h = absurd (omega arith)
-begun_none n ts a_let f h = absurd (omega arith)
-begun_none n ts a_case f h = absurd (omega arith)
-begun_none n ts an_each f h = absurd (omega arith)
-begun_none n ts a_pair f h = absurd (omega arith)
-begun_none n ts a_list f h = absurd (omega arith)
-begun_none n ts (a_name w) f h = absurd (omega arith)
-begun_none n ts (a_hash ds l) f h = absurd (omega arith)
-begun_none n ts (a_number ds l) f h = absurd (omega arith)
+begun-room : (n : ℕ) (ts : List Token) (x : Begin) {b : Begins} (f : Begin → Nodes) → Some b ≡ begin_named x → begun n ts x f ≡ room n ts (λ u. f x)
+unfolding begun begin_named
+begun-room n ts nothing f e = cc
+begun-room n ts a_false f e = refl
+begun-room n ts a_true f e = refl
+begun-room n ts a_let f e = refl
+begun-room n ts a_case f e = refl
+begun-room n ts an_each f e = refl
+begun-room n ts a_pair f e = refl
+begun-room n ts a_list f e = refl
+begun-room n ts (a_name w) f e = refl
+begun-room n ts (a_hash ds l) f e = refl
+begun-room n ts (a_number ds l) f e = refl
 
 module _ (R : Name → Option ℕ) (S : Scope) (n : ℕ) (ts : List Token) where
-  read_none : (f : ℕ) → begin_code (begin_of (first ts)) ≡ 0 → reader.read R f whole S n ts ≡ fault 90 (length ts) 0 5
-  unfolding reader.read parted
-  read_none zero e = begun_none n ts (begin_of (first ts)) _ e
-  read_none (suc f) e = begun_none n ts (begin_of (first ts)) _ e
+  read_none : (f : ℕ) → begin_of (first ts) ≡ nothing → reader.read R f whole S n ts ≡ fault 90 (length ts) 0 5
+  unfolding reader.read parted begun
+  read_none zero e = rw e
+  read_none (suc f) e = rw e
 
-  read_full : (f : ℕ) → (begin_code (begin_of (first ts)) ≡ 0 → ⊥) → n ≡ 200 → reader.read R f whole S n ts ≡ fault 94 (length ts) 0 72
-  unfolding reader.read parted room
-  read_full zero h e = begun-room n ts (begin_of (first ts)) _ h ∙ rw (eq-eqb n 200 e)
-  read_full (suc f) h e = begun-room n ts (begin_of (first ts)) _ h ∙ rw (eq-eqb n 200 e)
+  module _ {b : Begins} (h : Some b ≡ begin_named (begin_of (first ts))) where
+    read_full : (f : ℕ) → n ≡ 200 → reader.read R f whole S n ts ≡ fault 94 (length ts) 0 72
+    unfolding reader.read parted room
+    read_full zero e = begun-room n ts (begin_of (first ts)) _ h ∙ rw (eq-eqb n 200 e)
+    read_full (suc f) e = begun-room n ts (begin_of (first ts)) _ h ∙ rw (eq-eqb n 200 e)
 
-  read_more : (f : ℕ) → (begin_code (begin_of (first ts)) ≡ 0 → ⊥) → (n ≡ 200 → ⊥)
-      → reader.read R (suc f) whole S n ts ≡ shaped R (reader.read R f) S n ts (begin_of (first ts))
-  unfolding reader.read parted room
-  read_more f h e = begun-room n ts (begin_of (first ts)) _ h ∙ rw (ne_eqb n 200 e)
+    read_more : (f : ℕ) → (n ≡ 200 → ⊥) → reader.read R (suc f) whole S n ts ≡ shaped R (reader.read R f) S n ts (begin_of (first ts))
+    unfolding reader.read parted room
+    read_more f e = begun-room n ts (begin_of (first ts)) _ h ∙ rw (ne_eqb n 200 e)
 
-its_code : {s : List ℕ} {t : Lexeme} {b : ℕ} {c : Cursor} → Begun s t b c → begin_code (begin_of (first (ahead s c.at))) ≡ b
-its_code g = rw g.is_next.token (sym g.coded)
+pub expr_none : {s table : List ℕ} {sc : Names} {c : Cursor} {t : Lexeme} {names slots : List ℕ} → Next s c.at t → c.code ≡ 0 → c.count ≤ 200
+    → None ≡ begin_named (begin_of (token_at s t)) → Expr s table names slots sc c names slots (fault_at c 90 t.at 5)
+expr_none {s} {table} {sc} {c} {t} {names} n z few e = parsed_fault 90 t.at 5 few z (λ h f m.
+    rw (read_none (resolve_by s table) (scope_at s names sc) c.count (ahead s c.at) f (rw n.token (begin_none (begin_of (token_at s t)) e)))
+    (fault_here c n h (omega arith)))
 
-module _ {s table : List ℕ} {sc : Names} {c : Cursor} {t : Lexeme} {b : ℕ} (g : Begun s t b c) (z : c.code ≡ 0) where
-  pub expr_none : {names slots : List ℕ} → c.count ≤ 200 → b ≡ 0 → Expr s table names slots sc c names slots (fault_at c 90 t.at 5)
-  expr_none {names} few e = parsed_fault 90 t.at 5 few z (λ h f m.
-      rw (read_none (resolve_by s table) (scope_at s names sc) c.count (ahead s c.at) f (its_code g ∙ e)) (fault_here c g.is_next h (omega arith)))
+its_code : {s : List ℕ} {t : Lexeme} {b : Begins} {c : Cursor} → Begun s t b c → Some b ≡ begin_named (begin_of (first (ahead s c.at)))
+its_code g = rw g.is_next.token g.coded
 
-  pub expr_full : {names slots : List ℕ} → (b ≡ 0 → ⊥) → c.count ≡ 200 → Expr s table names slots sc c names slots (fault_at c 94 t.at 72)
-  expr_full {names} e q = parsed_fault 94 t.at 72 (omega arith) z (λ h f m.
-      rw (read_full (resolve_by s table) (scope_at s names sc) c.count (ahead s c.at) f (λ i. e (sym (its_code g) ∙ i)) q)
-      (fault_here c g.is_next h (omega arith)))
+module _ {s table : List ℕ} {sc : Names} {c : Cursor} {t : Lexeme} {b : Begins} (g : Begun s t b c) (z : c.code ≡ 0) where
+  pub expr_full : {names slots : List ℕ} → c.count ≡ 200 → Expr s table names slots sc c names slots (fault_at c 94 t.at 72)
+  expr_full {names} q = parsed_fault 94 t.at 72 (omega arith) z (λ h f m.
+      rw (read_full (resolve_by s table) (scope_at s names sc) c.count (ahead s c.at) (its_code g) f q) (fault_here c g.is_next h (omega arith)))
 
-  pub expr_shaped : {names slots names₁ slots₁ : List ℕ} {r : Cursor} → (b ≡ 0 → ⊥) → c.count < 200 → Shaped s table names slots sc c names₁ slots₁ r
+  pub expr_shaped : {names slots names₁ slots₁ : List ℕ} {r : Cursor} → c.count < 200 → Shaped s table names slots sc c names₁ slots₁ r
       → Expr s table names slots sc c names₁ slots₁ r
-  expr_shaped {names} {slots} {names₁} {slots₁} {r} e q w = record {
+  expr_shaped {names} {slots} {names₁} {slots₁} {r} q w = record {
     carries = w.carries;
     later = w.later;
     few = w.few;
@@ -1259,93 +1255,8 @@ module _ {s table : List ℕ} {sc : Names} {c : Cursor} {t : Lexeme} {b : ℕ} (
           → Told s (With s (Stored slots₁ c.count)) (reader.read (resolve_by s table) f whole (scope_at s names sc) c.count (ahead s c.at)) r
       goes zero h many m = absurd (omega arith)
       goes (suc f) h many m =
-          rw (read_more (resolve_by s table) (scope_at s names sc) c.count (ahead s c.at) f (λ i. e (sym (its_code g) ∙ i)) (λ i. omega arith))
+          rw (read_more (resolve_by s table) (scope_at s names sc) c.count (ahead s c.at) (its_code g) f (λ i. omega arith))
           (w.told z h many f (omega arith))
-
--- which tokens begin with which number
-code_most : (b : Begin) → begin_code b ≤ 10
-unfolding begin_code
-code_most nothing = omega arith
-code_most a_false = omega arith
-code_most a_true = omega arith
-code_most a_let = omega arith
-code_most a_case = omega arith
-code_most an_each = omega arith
-code_most a_pair = omega arith
-code_most a_list = omega arith
-code_most (a_name w) = omega arith
-code_most (a_hash ds l) = omega arith
-code_most (a_number ds l) = omega arith
-
-code_mark : (m : List ℕ) → begin_code (begin_of (mark m)) ≤ 7
-unfolding begin_of begin_code
-code_mark m = go (same m (bytes "(")) (same m (bytes "["))
-  where
-    go : (a b : Bool) → begin_code (cond a a_pair (cond b a_list nothing)) ≤ 7
-    go true b = omega arith
-    go false true = omega arith
-    go false false = omega arith
-
-code_word : (w : List ℕ) → begin_code (begin_of (word w)) ≤ 8
-unfolding begin_of word_begin begin_code
-code_word w = go (is_name w) (same w (bytes "false")) (same w (bytes "true")) (same w (bytes "let")) (same w (bytes "case")) (same w (bytes "each"))
-  where
-    go : (a b c d e f : Bool) → begin_code (cond a (a_name w) (cond b a_false (cond c a_true (cond d a_let (cond e a_case (cond f an_each nothing)))))) ≤ 8
-    go true b c d e f = omega arith
-    go false true c d e f = omega arith
-    go false false true d e f = omega arith
-    go false false false true e f = omega arith
-    go false false false false true f = omega arith
-    go false false false false false true = omega arith
-    go false false false false false false = omega arith
-
-code_digits : (w : List ℕ) (l : Bool) → begin_code (begin_of (digits w l)) ≡ 10
-unfolding begin_of begin_code
-code_digits w l = refl
-
-code_hash : (w : List ℕ) (l : Bool) → begin_code (begin_of (hash w l)) ≡ 9
-unfolding begin_of begin_code
-code_hash w l = refl
-
-code_by : (k : ℕ) (a c d e f : Bool) (x y z : List ℕ) (l m : Bool)
-    → let o = cond a (word x) (cond c (digits y l) (cond d (hash z m) (cond e (mark arrow) (cond f (mark []) (mark (k ∷ [])))))) in
-    (begin_code (begin_of o) ≡ 8 → a ≡ true) × (begin_code (begin_of o) ≡ 10 → c ≡ true)
-code_by k true c d e f x y z l m = (λ q. refl, λ q. absurd (omega (arith, code_word x)))
-code_by k false true d e f x y z l m = (λ q. absurd (omega (arith, code_digits y l)), λ q. refl)
-code_by k false false true e f x y z l m = (λ q. absurd (omega (arith, code_hash z m)), λ q. absurd (omega (arith, code_hash z m)))
-code_by k false false false true f x y z l m = (λ q. absurd (omega (arith, code_mark arrow)), λ q. absurd (omega (arith, code_mark arrow)))
-code_by k false false false false true x y z l m = (λ q. absurd (omega (arith, code_mark [])), λ q. absurd (omega (arith, code_mark [])))
-code_by k false false false false false x y z l m = (λ q. absurd (omega (arith, code_mark (k ∷ []))), λ q. absurd (omega (arith, code_mark (k ∷ []))))
-
-codes : (s : List ℕ) (t : Lexeme)
-    → (begin_code (begin_of (token_at s t)) ≡ 8 → eqb t.kind 97 ≡ true) × (begin_code (begin_of (token_at s t)) ≡ 10 → eqb t.kind 48 ≡ true)
-unfolding token_at
-codes s t = code_by t.kind (eqb t.kind 97) (eqb t.kind 48) (eqb t.kind 35) (eqb t.kind 65) (eqb t.kind 90) _ _ _ _ _
-
-pub number_kind : {s : List ℕ} {t : Lexeme} {b : ℕ} {c : Cursor} → Begun s t b c → b ≡ 10 → t.kind ≡ 48
-number_kind {s} {t} g e = eqb-true t.kind 48 ((codes s t).1 (sym g.coded ∙ e))
-
-pub name_begins : {s : List ℕ} {t : Lexeme} {b : ℕ} {c : Cursor} → Begun s t b c → b ≡ 8 → t.kind ≡ 97
-name_begins {s} {t} g e = eqb-true t.kind 97 ((codes s t).0 (sym g.coded ∙ e))
-
--- (each number in turn)
-left_is : (n : ℕ) → Childless n → (n ≡ 1 → ⊥) → (n ≡ 2 → ⊥) → (n ≡ 9 → ⊥) → n ≤ 10 → n ≡ 8
-left_is zero h x y z m = absurd (h.6 refl)
-left_is (suc zero) h x y z m = absurd (x refl)
-left_is (suc (suc zero)) h x y z m = absurd (y refl)
-left_is (suc (suc (suc zero))) h x y z m = absurd (h.0 refl)
-left_is (suc (suc (suc (suc zero)))) h x y z m = absurd (h.1 refl)
-left_is (suc (suc (suc (suc (suc zero))))) h x y z m = absurd (h.2 refl)
-left_is (suc (suc (suc (suc (suc (suc zero)))))) h x y z m = absurd (h.3 refl)
-left_is (suc (suc (suc (suc (suc (suc (suc zero))))))) h x y z m = absurd (h.4 refl)
-left_is (suc (suc (suc (suc (suc (suc (suc (suc zero)))))))) h x y z m = refl
-left_is (suc (suc (suc (suc (suc (suc (suc (suc (suc zero))))))))) h x y z m = absurd (z refl)
-left_is (suc (suc (suc (suc (suc (suc (suc (suc (suc (suc zero)))))))))) h x y z m = absurd (h.5 refl)
-left_is (suc (suc (suc (suc (suc (suc (suc (suc (suc (suc (suc n))))))))))) h x y z m = absurd (omega arith)
-
--- a node without children that is neither false, true nor a hash is a name
-pub name_left : {s : List ℕ} {t : Lexeme} {b : ℕ} {c : Cursor} → Begun s t b c → Childless b → (b ≡ 1 → ⊥) → (b ≡ 2 → ⊥) → (b ≡ 9 → ⊥) → b ≡ 8
-name_left {s} {t} {b} g h x y z = left_is b h x y z (rw g.coded (code_most (begin_of (token_at s t))))
 
 -- WHAT THE CALLS ASK
 

@@ -1,5 +1,6 @@
 -- THE CONSTRUCTS: what each function of an expression asks and answers.
 use Rattle.std.specs.Prelude.{◌≡◌, List, [], ◌∷◌, ℕ, suc, ◌+◌, ◌*◌, ◌≤◌, ◌<◌, length, get_or}
+use Rattle.std.specs.Prelude.{Some}
 use Rattle.std.proofs.Math.Option.{Option}
 use Rattle.node.specs.declared.Node.{Node}
 use Rattle.tokens.specs.Quoted.{bytes}
@@ -13,8 +14,9 @@ use Rattle.parsing.specs.Cursor.{Told, With, Carries}
 use Rattle.parsing.specs.Names.{name_at, stack_of}
 use Rattle.parsing.specs.Expect.{resolve_by, scope_at}
 use Rattle.parsing.specs.Nodes.{Slots, Kept}
-use Rattle.parsing.specs.Expressions.{begin_code, Stored, Below}
+use Rattle.parsing.specs.Expressions.{begin_named, Stored, Below}
 use Rattle.parsing.specs.declared.cursor.Cursor.{Cursor}
+use Rattle.parsing.specs.declared.expr.Begin.{Begin as Begins}
 use Rattle.lexing.specs.declared.Lexeme.{Lexeme}
 use Rattle.parsing.specs.declared.expect.Scope.{Scope as Names}
 
@@ -33,12 +35,9 @@ pub record Inner (table names slots top : ℕ) (c : Cursor) : Type 0 where
   pub clear : c.code ≡ 0
 
 -- the token that it begins with, and what that says
-pub record Begun (s : List ℕ) (t : Lexeme) (b : ℕ) (c : Cursor) : Type 0 where
+pub record Begun (s : List ℕ) (t : Lexeme) (b : Begins) (c : Cursor) : Type 0 where
   pub is_next : Next s c.at t
-  pub coded : b ≡ begin_code (begin_of (token_at s t))
-
-abbrev pub Childless : ℕ → Type 0
-Childless b = (b ≡ 3 → ⊥) × (b ≡ 4 → ⊥) × (b ≡ 5 → ⊥) × (b ≡ 6 → ⊥) × (b ≡ 7 → ⊥) × (b ≡ 10 → ⊥) × (b ≡ 0 → ⊥)
+  pub coded : Some b ≡ begin_named (begin_of (token_at s t))
 
 -- of the branches of a case, whose number is n
 pub record Cased (table names slots top n : ℕ) (c : Cursor) : Type 0 where

@@ -1,5 +1,5 @@
 -- TOKENS EXPECTED: what the functions answer that expect a mark, a word, a name, a number, a variable, a section's name or a test.
-use Rattle.std.specs.Prelude.{◌≡◌, Bool, true, false, not, ◌&&◌, ◌||◌, cond, eqb, leb, get_or, take, drop, set}
+use Rattle.std.specs.Prelude.{◌≡◌, Bool, true, false, ◌&&◌, ◌||◌, cond, eqb, leb, get_or, take, drop, set}
 use Rattle.std.proofs.Math.Path.{refl}
 use Rattle.std.proofs.Common.{sym, ap, ◌∙◌, add-one, drop_of_length-le, length-set, get_or-set_same}
 use Rattle.std.proofs.Math.Option.{Option, none, some}
@@ -8,83 +8,87 @@ use Prim.Native.Nat.{ℕ, zero, suc, ◌+◌, ◌*◌, ◌-◌, ◌≤◌, ◌<�
 use native.Mathlib.Omega.{arith}
 use Rattle.std.proofs.Math.ListN.{length}
 use Rattle.std.proofs.lemmas.List.{take-set-le}
-use borrow.Author.Tests.{ne_eqb, eq-eqb, le-leb, lt-leb, not-true, eqb-true, eqb-false, leb-true}
+use borrow.Author.Tests.{ne_eqb, eq-eqb, le-leb, lt-leb, leb-true}
 use Rattle.tokens.specs.Quoted.{bytes}
-use Rattle.tokens.specs.Tokens.{Token, word, digits, hash, mark, Class, blank, letter, digit, dash, sharp, other, class_of, arrow, first, rest, word_of}
+use Rattle.tokens.specs.Tokens.{Token, Class, blank, letter, digit, dash, sharp, other, class_of, arrow, first, rest, word_of}
 use Rattle.tokens.specs.Tokens.{mark_of, same}
-use Rattle.syntax.specs.Reader.{Out, ok, fault, ◌>>=◌, Name, Scope, scope, find, wild, tests, is_name, symbol, keyword, bind, section_name, known}
+use Rattle.syntax.specs.Reader.{Out, ok, fault, ◌>>=◌, Name, Scope, scope, find, is_some, wild, tests, is_name, symbol, keyword, bind, section_name, known}
 use Rattle.syntax.specs.Reader.{is, value, zero_first, valued, number, by_number, variable_by, variable, test_by, test}
 use Rattle.tokens.specs.Laid.{is_digit, is_letter}
 use Rattle.tokens.specs.Tokens.{is_blank as is_blank', is_letter as is_letter'}
 use Rattle.tokens.specs.Ahead.{all_in, letter_first, place_at}
 use Rattle.tokens.specs.Same.{and-true}
-use Rattle.lexing.specs.Lexing.{Between, ahead, part, part_first, part_length, at_byte, code_of, token_at, Shape, Next}
+use Rattle.lexing.specs.Lexing.{Between, ahead, part, part_first, part_length, at_byte, class_named, named_letter, token_of, token_at, Shape, Next}
 use Rattle.parsing.specs.Cursor.{fault_at, behind, Told, on, off, fault_told, Behind, With, fault_same, Carries, Goes, told_then}
-use Rattle.parsing.specs.Names.{part_at_lem, word_is, word_none, same_none, name_read, name_at, stack_of, Found, same_sym}
+use Rattle.parsing.specs.Names.{part_at_lem, word_is, word_none, name_read, name_at, stack_of, stack-length, same_sym}
 use Rattle.parsing.specs.declared.cursor.Cursor.{Cursor}
+use Rattle.lexing.specs.declared.Class.TheVariants as class
+use Rattle.lexing.specs.declared.Kind.{Kind}
+use Rattle.lexing.specs.declared.Kind.TheVariants as kind
 use Rattle.lexing.specs.declared.Lexeme.{Lexeme}
 use Rattle.parsing.specs.declared.expect.Scope.{Scope as Names}
 
--- MARKS: the kinds of token that are no mark are no symbol; 65 stands for the arrow
-abbrev pub is_symbol : ℕ → Bool
-is_symbol m = not (eqb m 97) && (not (eqb m 48) && (not (eqb m 35) && not (eqb m 90)))
-
-unfoldable pub marked : ℕ → List ℕ
-marked m = cond (eqb m 65) arrow (m ∷ [])
+-- MARKS: an arrow, and any one byte; no other kind of token is a symbol
+abbrev pub is_symbol : Kind → Bool
+is_symbol kind.Word = false
+is_symbol kind.Digits = false
+is_symbol kind.Hash = false
+is_symbol kind.Arrow = true
+is_symbol kind.End = false
+is_symbol (kind.Mark c) = true
 
 -- the mark of a token of a kind
-unfoldable pub mark_at : ℕ → List ℕ
-mark_at k = cond (eqb k 97) [] (cond (eqb k 48) [] (cond (eqb k 35) [] (cond (eqb k 65) arrow (cond (eqb k 90) [] (k ∷ [])))))
+unfoldable pub marked : Kind → List ℕ
+marked kind.Word = []
+marked kind.Digits = []
+marked kind.Hash = []
+marked kind.Arrow = arrow
+marked kind.End = []
+marked (kind.Mark c) = c ∷ []
 
-mark_by : (a b c d e : Bool) (x y z w : List ℕ) (f g : Bool) (k : ℕ)
-    → mark_of (cond a (word x) (cond b (digits y f) (cond c (hash z g) (cond d (mark arrow) (cond e (mark []) (mark (k ∷ [])))))))
-    ≡ cond a [] (cond b [] (cond c [] (cond d arrow (cond e [] (k ∷ [])))))
-unfolding mark_of
-mark_by true b c d e x y z w f g k = refl
-mark_by false true c d e x y z w f g k = refl
-mark_by false false true d e x y z w f g k = refl
-mark_by false false false true e x y z w f g k = refl
-mark_by false false false false true x y z w f g k = refl
-mark_by false false false false false x y z w f g k = refl
-
-pub mark_is : (s : List ℕ) (t : Lexeme) → mark_of (token_at s t) ≡ mark_at t.kind
-unfolding token_at mark_at
-mark_is s t = mark_by (eqb t.kind 97) (eqb t.kind 48) (eqb t.kind 35) (eqb t.kind 65) (eqb t.kind 90) _ _ _ [] _ _ t.kind
-
-pub mark_own : (m : ℕ) → is_symbol m ≡ true → same (mark_at m) (marked m) ≡ true
-unfolding mark_at marked same
-mark_own m h =
-    let a = and-true (not (eqb m 97)) _ h in
-    let b = and-true (not (eqb m 48)) _ a.1 in
-    let c = and-true (not (eqb m 35)) (not (eqb m 90)) b.1 in
-    rw (not-true (eqb m 97) a.0, not-true (eqb m 48) b.0, not-true (eqb m 35) c.0, not-true (eqb m 90) c.1) (go (eqb m 65))
+pub mark_is : (s : List ℕ) (t : Lexeme) → mark_of (token_at s t) ≡ marked t.kind
+unfolding token_of token_at marked mark_of
+mark_is s t = go t.kind
   where
-    go : (b : Bool) → same (cond b arrow (m ∷ [])) (cond b arrow (m ∷ [])) ≡ true
-    go true = refl
-    go false = rw (eq-eqb m m refl)
+    go : (k : Kind) → mark_of (token_of s t.at t.end k) ≡ marked k
+    go kind.Word = refl
+    go kind.Digits = refl
+    go kind.Hash = refl
+    go kind.Arrow = refl
+    go kind.End = refl
+    go (kind.Mark c) = refl
+
+pub mark_own : (m : Kind) → is_symbol m ≡ true → same (marked m) (marked m) ≡ true
+unfolding marked same
+mark_own kind.Word h = refl
+mark_own kind.Digits h = refl
+mark_own kind.Hash h = refl
+mark_own kind.Arrow h = refl
+mark_own kind.End h = refl
+mark_own (kind.Mark c) h = rw (eq-eqb c c refl)
 
 and-false : (b : Bool) → b && false ≡ false
 and-false true = refl
 and-false false = refl
 
-pub mark_other : (k m : ℕ) → (k ≡ m → ⊥) → same (mark_at k) (marked m) ≡ false
-unfolding mark_at marked same
-mark_other k m h = go (eqb k 97) (eqb k 48) (eqb k 35) (eqb k 65) (eqb k 90) (eqb m 65) refl refl
-  where
-    none_of : (f : Bool) → same [] (cond f arrow (m ∷ [])) ≡ false
-    none_of true = refl
-    none_of false = refl
-
-    go : (a b c d e f : Bool) → eqb k 65 ≡ d → eqb m 65 ≡ f
-        → same (cond a [] (cond b [] (cond c [] (cond d arrow (cond e [] (k ∷ [])))))) (cond f arrow (m ∷ [])) ≡ false
-    go true b c d e f p q = none_of f
-    go false true c d e f p q = none_of f
-    go false false true d e f p q = none_of f
-    go false false false true e true p q = absurd (h (eqb-true k 65 p ∙ sym (eqb-true m 65 q)))
-    go false false false true e false p q = and-false (eqb 45 m)
-    go false false false false true f p q = none_of f
-    go false false false false false true p q = and-false (eqb k 45)
-    go false false false false false false p q = rw (ne_eqb k m h)
+pub mark_other : (k m : Kind) → is_symbol m ≡ true → (k ≡ m → ⊥) → same (marked k) (marked m) ≡ false
+unfolding marked same
+mark_other k kind.Word s h = cc
+mark_other k kind.Digits s h = cc
+mark_other k kind.Hash s h = cc
+mark_other k kind.End s h = cc
+mark_other kind.Word kind.Arrow s h = refl
+mark_other kind.Digits kind.Arrow s h = refl
+mark_other kind.Hash kind.Arrow s h = refl
+mark_other kind.Arrow kind.Arrow s h = absurd (h refl)
+mark_other kind.End kind.Arrow s h = refl
+mark_other (kind.Mark c) kind.Arrow s h = and-false (eqb c 45)
+mark_other kind.Word (kind.Mark c) s h = refl
+mark_other kind.Digits (kind.Mark c) s h = refl
+mark_other kind.Hash (kind.Mark c) s h = refl
+mark_other kind.Arrow (kind.Mark c) s h = and-false (eqb 45 c)
+mark_other kind.End (kind.Mark c) s h = refl
+mark_other (kind.Mark b) (kind.Mark c) s h = rw (ne_eqb b c (λ q. h (ap kind.Mark q)))
 
 or-true : (b : Bool) → b || true ≡ true
 or-true true = refl
@@ -101,14 +105,15 @@ module _ {s : List ℕ} (c : Cursor) {t : Lexeme} (n : Next s c.at t) where
 
   -- SYMBOLS AND WORDS
   module _ (d : ℕ) where
-    pub symbol_read : (m : ℕ) → is_symbol m ≡ true → t.kind ≡ m → Between s c.at
+    pub symbol_read : (m : Kind) → is_symbol m ≡ true → t.kind ≡ m → Between s c.at
         → Told s (Behind s) (symbol (marked m) d (ahead s c.at)) (behind c t.end 0 0)
     unfolding symbol
     symbol_read m h e b = rw (n.token, mark_is s t, e, mark_own m h) (on refl (over_it 0 0 b))
 
-    pub symbol_other : (m : ℕ) → (t.kind ≡ m → ⊥) → Between s c.at → Told s (Behind s) (symbol (marked m) d (ahead s c.at)) (fault_at c 90 t.at d)
+    pub symbol_other : (m : Kind) → is_symbol m ≡ true → (t.kind ≡ m → ⊥) → Between s c.at
+        → Told s (Behind s) (symbol (marked m) d (ahead s c.at)) (fault_at c 90 t.at d)
     unfolding symbol
-    symbol_other m h b = rw (n.token, mark_is s t, mark_other t.kind m h) (fault_here b (omega arith))
+    symbol_other m i h b = rw (n.token, mark_is s t, mark_other t.kind m i h) (fault_here b (omega arith))
 
     pub keyword_read : (w : Name) → same (word_of (token_at s t)) w ≡ true → Between s c.at
         → Told s (Behind s) (keyword w d (ahead s c.at)) (behind c t.end 0 0)
@@ -139,7 +144,8 @@ pub again_on : (s : List ℕ) (place detail : ℕ) (c : Cursor) → (c.code ≡ 
 again_on s place detail c h = record { same = refl; carries = λ q. fault_same c; told = λ e b. absurd (h e) }
 
 module _ {s : List ℕ} {c : Cursor} {t : Lexeme} (place d : ℕ) (n : Next s c.at t) (z : c.code ≡ 0) where
-  pub again_none : (t.kind ≡ 97 → ⊥) → Again s place d c (fault_at c 90 t.at d)
+  pub again_none : (t.kind ≡ kind.Word → ⊥) → Again s place d c (fault_at c 90 t.at d)
+  unfolding same
   again_none h = record {
     same = refl;
     carries = λ q. absurd (q z);
@@ -147,7 +153,8 @@ module _ {s : List ℕ} {c : Cursor} {t : Lexeme} (place d : ℕ) (n : Next s c.
   }
     where
       none_same : (w : Name) → 0 < length w → same (word_of (token_at s t)) w ≡ false
-      none_same w l = sym (same_none s t w l h)
+      none_same [] l = absurd (omega arith)
+      none_same (b ∷ w) l = rw (word_none s t h)
 
   pub again_other : same (name_at s place) (word_of (token_at s t)) ≡ false → Again s place d c (fault_at c 90 t.at d)
   again_other e = record {
@@ -162,6 +169,19 @@ module _ {s : List ℕ} {c : Cursor} {t : Lexeme} (place d : ℕ) (n : Next s c.
     carries = λ q. absurd (q z);
     told = λ f b l. keyword_read c n d (name_at s place) (same_sym (word_of (token_at s t)) (name_at s place) ∙ e) b;
   }
+
+-- the number of a name is below how many there are
+find_below : (xs : List Name) (w : Name) {x : ℕ} → find xs w ≡ some x → x < length xs
+unfolding find
+find_below [] w e = cc
+find_below (y ∷ xs) w {x} e = go (same y w) e (λ q. find_below xs w q)
+  where
+    go : (b : Bool) → cond b (some (length xs)) (find xs w) ≡ some x → (find xs w ≡ some x → x < length xs) → x < suc (length xs)
+    go true q f = let z : length xs ≡ x = cc in omega arith
+    go false q f = let z = f q in omega arith
+
+found_below : (s names : List ℕ) (base many : ℕ) (w : Name) {x : ℕ} → find (stack_of s names base many) w ≡ some x → x < many
+found_below s names base many w e = let l = find_below (stack_of s names base many) w e in let m = stack-length s names base many in omega arith
 
 -- A NEW NAME: it is noted behind those in scope, and its place is what was found
 pub record Named (s names : List ℕ) (top : ℕ) (w : Name) (r : Cursor) : Type 0 where
@@ -189,12 +209,12 @@ module _ {s names : List ℕ} (base many : ℕ) {c : Cursor} {t : Lexeme} (n : N
   unfolding bind
   bind_none e f = binds_fault (λ b. rw (n.token, e, f) (fault_here c n b (omega arith)))
 
-  pub bind_taken : {x : ℕ} → same (word_of (token_at s t)) wild ≡ false → is_name (word_of (token_at s t)) ≡ true
-      → Found s names base many (word_of (token_at s t)) x → x < many → Binds s names base many c names (fault_at c 92 t.at 50)
+  pub bind_taken : same (word_of (token_at s t)) wild ≡ false → is_name (word_of (token_at s t)) ≡ true
+      → is_some (find (stack_of s names base many) (word_of (token_at s t))) ≡ true → Binds s names base many c names (fault_at c 92 t.at 50)
   unfolding bind
-  bind_taken e f g h = binds_fault (λ b. rw (n.token, e, f, g.is h) (fault_here c n b (omega arith)))
+  bind_taken e f g = binds_fault (λ b. rw (n.token, e, f, g) (fault_here c n b (omega arith)))
 
-  module _ (room : base + many < length names) (k : t.kind ≡ 97) where
+  module _ (room : base + many < length names) (k : t.kind ≡ kind.Word) where
     noted : (Between s c.at → bind (stack_of s names base many) (ahead s c.at) ≡ ok (word_of (token_at s t), rest (ahead s c.at)))
         → Binds s names base many c (set names (base + many) t.at) (behind c t.end t.at 0)
     noted f = record {
@@ -216,28 +236,39 @@ module _ {s names : List ℕ} (base many : ℕ) {c : Cursor} {t : Lexeme} (n : N
     unfolding bind
     bind_wild e = noted (λ b. rw (n.token, e, or-true (is_name (word_of (token_at s t)))))
 
-    pub bind_new : {x : ℕ} → same (word_of (token_at s t)) wild ≡ false → is_name (word_of (token_at s t)) ≡ true
-        → Found s names base many (word_of (token_at s t)) x → many ≤ x
+    pub bind_new : same (word_of (token_at s t)) wild ≡ false → is_name (word_of (token_at s t)) ≡ true
+        → is_some (find (stack_of s names base many) (word_of (token_at s t))) ≡ false
         → Binds s names base many c (set names (base + many) t.at) (behind c t.end t.at 0)
     unfolding bind
-    bind_new {x} e f g h = noted (λ b. rw (n.token, e, f, g.not (let z = g.most in omega arith)))
+    bind_new e f g = noted (λ b. rw (n.token, e, f, g))
 
--- a name is a word
-pub name_kind : (s : List ℕ) (t : Lexeme) → is_name (word_of (token_at s t)) ≡ true → t.kind ≡ 97
-unfolding is_name
-name_kind s t e = go (eqb t.kind 97) refl
+-- a word of some bytes is a word
+pub word_kind : (s : List ℕ) (t : Lexeme) → 0 < length (word_of (token_at s t)) → t.kind ≡ kind.Word
+unfolding token_of token_at word_of
+word_kind s t h = go t.kind h
   where
-    go : (b : Bool) → eqb t.kind 97 ≡ b → t.kind ≡ 97
-    go true q = eqb-true t.kind 97 q
-    go false q = let z : ◌≡◌ {A = Bool} false true = rw (word_none s t (eqb-false t.kind 97 q)) at e in let y : ◌≡◌ {A = ℕ} 0 1 = cc in absurd (omega arith)
+    go : (k : Kind) → 0 < length (word_of (token_of s t.at t.end k)) → k ≡ kind.Word
+    go kind.Word q = refl
+    go kind.Digits q = absurd (omega arith)
+    go kind.Hash q = absurd (omega arith)
+    go kind.Arrow q = absurd (omega arith)
+    go kind.End q = absurd (omega arith)
+    go (kind.Mark c) q = absurd (omega arith)
 
-pub word_kind : (s : List ℕ) (t : Lexeme) (c : ℕ) (w : List ℕ) → same (word_of (token_at s t)) (c ∷ w) ≡ true → t.kind ≡ 97
+pub some_same : (w x : Name) → 0 < length x → same w x ≡ true → 0 < length w
 unfolding same
-word_kind s t c w e = go (eqb t.kind 97) refl
+some_same [] [] h e = h
+some_same [] (c ∷ x) h e = cc
+some_same (b ∷ w) x h e = omega arith
+
+-- and so is a name
+pub name_kind : (s : List ℕ) (t : Lexeme) → is_name (word_of (token_at s t)) ≡ true → t.kind ≡ kind.Word
+unfolding is_name
+name_kind s t e = word_kind s t (go (word_of (token_at s t)) e)
   where
-    go : (b : Bool) → eqb t.kind 97 ≡ b → t.kind ≡ 97
-    go true q = eqb-true t.kind 97 q
-    go false q = let z : ◌≡◌ {A = Bool} false true = rw (word_none s t (eqb-false t.kind 97 q)) at e in let y : ◌≡◌ {A = ℕ} 0 1 = cc in absurd (omega arith)
+    go : (w : Name) → is_name w ≡ true → 0 < length w
+    go [] e = cc
+    go (c ∷ w) e = omega arith
 
 digit_range : (c : ℕ) → is_digit (class_of c) ≡ true → (48 ≤ c) × (c ≤ 57)
 unfolding class_of
@@ -277,16 +308,21 @@ pub record Numbers (s : List ℕ) (from end most detail : ℕ) (c r : Cursor) : 
   pub told : (left inner : ℕ) → place_at s left + inner ≡ from
       → Told s (Number end most) (number most detail left inner (part s from end) (letter_first (drop end s))) r
 
-pub letter_first_lem : (s : List ℕ) (at : ℕ) → at < length s → {k : ℕ} → k ≡ code_of (class_of (get_or s at 0)) → eqb k 1 ≡ letter_first (drop at s)
-letter_first_lem s at h e = rw (at_byte s at h, e) (go (class_of (get_or s at 0)))
-  where
-    go : (k : Class) → eqb (code_of k) 1 ≡ is_letter k
-    go letter = unfold code_of in refl
-    go blank = unfold code_of in refl
-    go digit = unfold code_of in refl
-    go dash = unfold code_of in refl
-    go sharp = unfold code_of in refl
-    go other = unfold code_of in refl
+module _ (s : List ℕ) (at : ℕ) (h : at < length s) where
+  pub letter_yes : class.Letter ≡ class_named (class_of (get_or s at 0)) → true ≡ letter_first (drop at s)
+  letter_yes e = let k = named_letter (class_of (get_or s at 0)) (sym e) in rw (at_byte s at h, k)
+
+  pub letter_no : (class_named (class_of (get_or s at 0)) ≡ class.Letter → ⊥) → false ≡ letter_first (drop at s)
+  unfolding class_named
+  letter_no n = rw (at_byte s at h) (go (class_of (get_or s at 0)) n)
+    where
+      go : (k : Class) → (class_named k ≡ class.Letter → ⊥) → false ≡ is_letter k
+      go letter q = absurd (q refl)
+      go blank q = refl
+      go digit q = refl
+      go dash q = refl
+      go sharp q = refl
+      go other q = refl
 
 pub letter_none : (s : List ℕ) (at : ℕ) → length s ≤ at → false ≡ letter_first (drop at s)
 letter_none s at h = rw (drop_of_length-le s h)
@@ -388,7 +424,7 @@ pub record ByNumber (s : List ℕ) (t : Lexeme) (c r : Cursor) : Type 0 where
   pub told : (left : ℕ) → place_at s left ≡ t.at
       → Told s (Number t.end 255) (by_number left (part s (suc t.at) t.end) (letter_first (drop t.end s))) r
 
-module _ {s : List ℕ} {t : Lexeme} (g : Shape s t) (k : t.kind ≡ 35) where
+module _ {s : List ℕ} {t : Lexeme} (g : Shape s t) (k : t.kind ≡ kind.Hash) where
   pub no_number : (c : Cursor) → t.end - t.at < 2 → ByNumber s t c (fault_at c 90 (t.at + 1) 12)
   unfolding by_number
   no_number c h = record {
@@ -420,28 +456,20 @@ pub record IsVariable (sc : Names) (x : ℕ) (r : Cursor) : Type 0 where
   pub is_found : r.found ≡ x
   pub small : sc.many ≤ 256 → x < 256
 
--- any other token than these two is none
-variable_other : (sc : Scope) (left : ℕ) (a b c d e : Bool) (x y z w : List ℕ) (f g : Bool) (k : ℕ) → a ≡ false → c ≡ false
-    → variable_by sc left (cond a (word x) (cond b (digits y f) (cond c (hash z g) (cond d (mark arrow) (cond e (mark []) (mark (k ∷ [])))))))
-    ≡ fault 90 left 0 11
-unfolding variable_by
-variable_other sc left true b c d e x y z w f g k p q = let i : ◌≡◌ {A = ℕ} 0 1 = cc in absurd (omega arith)
-variable_other sc left false true c d e x y z w f g k p q = refl
-variable_other sc left false false true d e x y z w f g k p q = let i : ◌≡◌ {A = ℕ} 0 1 = cc in absurd (omega arith)
-variable_other sc left false false false true e x y z w f g k p q = refl
-variable_other sc left false false false false true x y z w f g k p q = refl
-variable_other sc left false false false false false x y z w f g k p q = refl
-
-variable_none_of : (s : List ℕ) (t : Lexeme) (sc : Scope) (left : ℕ) → eqb t.kind 97 ≡ false → eqb t.kind 35 ≡ false
+-- any other token than a name and a hash is none
+variable_no : (s : List ℕ) (t : Lexeme) (sc : Scope) (left : ℕ) → (t.kind ≡ kind.Hash → ⊥) → is_name (word_of (token_at s t)) ≡ false
     → variable_by sc left (token_at s t) ≡ fault 90 left 0 11
-unfolding token_at
-variable_none_of s t sc left p q =
-    variable_other sc left (eqb t.kind 97) (eqb t.kind 48) (eqb t.kind 35) (eqb t.kind 65) (eqb t.kind 90) _ _ _ [] _ _ t.kind p q
-
-variable_no_name : (s : List ℕ) (t : Lexeme) (sc : Scope) (left : ℕ) → t.kind ≡ 97 → is_name (word_of (token_at s t)) ≡ false
-    → variable_by sc left (token_at s t) ≡ fault 90 left 0 11
-unfolding token_at variable_by word_of
-variable_no_name s t sc left k e = rw k (rw (rw k at e))
+unfolding token_of token_at variable_by word_of
+variable_no s t sc left h e = go t.kind h e
+  where
+    go : (k : Kind) → (k ≡ kind.Hash → ⊥) → is_name (word_of (token_of s t.at t.end k)) ≡ false
+        → variable_by sc left (token_of s t.at t.end k) ≡ fault 90 left 0 11
+    go kind.Word h e = rw e
+    go kind.Digits h e = refl
+    go kind.Hash h e = absurd (h refl)
+    go kind.Arrow h e = refl
+    go kind.End h e = refl
+    go (kind.Mark c) h e = refl
 
 module _ {s : List ℕ} (names : List ℕ) (sc : Names) (c : Cursor) {t : Lexeme} (n : Next s c.at t) (z : c.code ≡ 0) where
   abbrev Variable : Cursor → Type 0
@@ -454,8 +482,8 @@ module _ {s : List ℕ} (names : List ℕ) (sc : Names) (c : Cursor) {t : Lexeme
   unfolding variable
   as_variable e f = goes _ z e (λ b. rw n.token (f b))
 
-  pub variable_hash : {r : Cursor} → t.kind ≡ 35 → ByNumber s t c r → Variable r
-  unfolding token_at variable_by
+  pub variable_hash : {r : Cursor} → t.kind ≡ kind.Hash → ByNumber s t c r → Variable r
+  unfolding token_of token_at variable_by
   variable_hash {r} e w = as_variable w.same (λ b. rw e (told_then _ (w.told (length (ahead s c.at)) (n.place b)) (λ q. fault_same _)
       (λ x p v. on p (record {
         stands = record { here = rw v.is_behind (n.here b); tokens = rw v.is_behind n.behind };
@@ -465,34 +493,28 @@ module _ {s : List ℕ} (names : List ℕ) (sc : Names) (c : Cursor) {t : Lexeme
         };
       }))))
 
-  pub variable_none : (t.kind ≡ 35 → ⊥) → is_name (word_of (token_at s t)) ≡ false → Variable (fault_at c 90 t.at 11)
-  variable_none h e = as_variable refl (λ b. rw (refused (eqb t.kind 97) refl) (none_read b))
+  pub variable_none : (t.kind ≡ kind.Hash → ⊥) → is_name (word_of (token_at s t)) ≡ false → Variable (fault_at c 90 t.at 11)
+  variable_none h e = as_variable refl (λ b. rw (variable_no s t (scope_at s names sc) _ h e) (none_read b))
     where
       none_read : Between s c.at → Told s (With s (IsVariable sc)) (fault 90 (length (ahead s c.at)) 0 11 >>= λ x. ok (x, rest (ahead s c.at)))
           (fault_at c 90 t.at 11)
       none_read b = unfold ◌>>=◌ in fault_here c n b (omega arith)
 
-      refused : (b : Bool) → eqb t.kind 97 ≡ b
-          → variable_by (scope_at s names sc) (length (ahead s c.at)) (token_at s t) ≡ fault 90 (length (ahead s c.at)) 0 11
-      refused true q = variable_no_name s t (scope_at s names sc) _ (eqb-true t.kind 97 q) e
-      refused false q = variable_none_of s t (scope_at s names sc) _ q (ne_eqb t.kind 35 h)
-
   module _ (e : is_name (word_of (token_at s t)) ≡ true) where
     by_name : variable_by (scope_at s names sc) (length (ahead s c.at)) (token_at s t)
         ≡ known (find (stack_of s names sc.base sc.many) (word_of (token_at s t))) (length (ahead s c.at)) sc.lost
     by_name = let k = name_kind s t e in let i = word_is s t k in
-        unfold token_at variable_by scope_at word_of in rw (k, rw i at e)
+        unfold token_of token_at variable_by scope_at word_of known in rw (k, rw i at e)
 
-    pub variable_lost : {x : ℕ} → Found s names sc.base sc.many (word_of (token_at s t)) x → x ≡ sc.many → Variable (fault_at c 91 t.at sc.lost)
+    pub variable_lost : find (stack_of s names sc.base sc.many) (word_of (token_at s t)) ≡ none → Variable (fault_at c 91 t.at sc.lost)
     unfolding known ◌>>=◌
-    variable_lost g h = as_variable refl (λ b. rw (by_name, g.not h) (fault_here c n b (omega arith)))
+    variable_lost g = as_variable refl (λ b. rw (by_name, g) (fault_here c n b (omega arith)))
 
-    pub variable_named : {x : ℕ} → Found s names sc.base sc.many (word_of (token_at s t)) x → (x ≡ sc.many → ⊥) → Variable (behind c t.end x 0)
+    pub variable_named : {x : ℕ} → find (stack_of s names sc.base sc.many) (word_of (token_at s t)) ≡ some x → Variable (behind c t.end x 0)
     unfolding known ◌>>=◌
-    variable_named {x} g h =
-        let m = g.most in
-        let l : x < sc.many = omega arith in
-        as_variable refl (λ b. rw (by_name, g.is l)
+    variable_named {x} g =
+        let l = found_below s names sc.base sc.many _ g in
+        as_variable refl (λ b. rw (by_name, g)
         (on refl (record { stands = over_it c n x 0 b; value = record { is_found = refl; small = λ q. omega arith } })))
 
 -- THE NAME OF A SECTION: by the names of the sections, of which the first entry of the table is none; with no table it is 0
@@ -533,22 +555,22 @@ module _ (s table : List ℕ) (t : Lexeme) (c : Cursor) where
   by_table [] w h = absurd (h refl)
   by_table (x ∷ l) w h = let e : suc (length l) - 1 ≡ length l = omega arith in rw e
 
-  module _ (some-names : length table ≡ 0 → ⊥) {x : ℕ} (g : Found s table 1 (length table - 1) (word_of (token_at s t)) x) where
-    pub not_section : x ≡ length table - 1 → Resolves s table t c (fault_at c 91 t.at 43)
+  module _ (some-names : length table ≡ 0 → ⊥) where
+    pub not_section : find (stack_of s table 1 (length table - 1)) (word_of (token_at s t)) ≡ none → Resolves s table t c (fault_at c 91 t.at 43)
     unfolding known
-    not_section h = record {
+    not_section g = record {
       same = refl;
-      told = λ left e. rw (by_table table (word_of (token_at s t)) some-names, g.not h) (fault_told c 91 left 0 43 t.at (omega arith) (omega arith));
+      told = λ left e. rw (by_table table (word_of (token_at s t)) some-names, g) (fault_told c 91 left 0 43 t.at (omega arith) (omega arith));
     }
 
-    pub its_section : length table ≤ 9 → (x ≡ length table - 1 → ⊥) → Resolves s table t c (behind c c.at x 0)
+    pub its_section : {x : ℕ} → length table ≤ 9 → find (stack_of s table 1 (length table - 1)) (word_of (token_at s t)) ≡ some x
+        → Resolves s table t c (behind c c.at x 0)
     unfolding known
-    its_section few h =
-        let m = g.most in
-        let l : x < length table - 1 = omega arith in
+    its_section {x} few g =
+        let l = found_below s table 1 (length table - 1) _ g in
         record {
           same = refl;
-          told = λ left e. rw (by_table table (word_of (token_at s t)) some-names, g.is l)
+          told = λ left e. rw (by_table table (word_of (token_at s t)) some-names, g)
               (on {x = x} {r = behind c c.at x 0} refl (record { is_callee = record { is_found = refl; small = omega arith }; stays = refl }));
         }
 
@@ -570,35 +592,10 @@ module _ {s : List ℕ} (table : List ℕ) (c : Cursor) {t : Lexeme} (n : Next s
       on {x = (y, x.1)} {r = r} q (record { stands = record { here = h; tokens = l }; value = u.is_callee }))))))
 
 -- A TEST
-unfoldable pub number_or : Option ℕ → ℕ
-number_or none = 7
-number_or (some x) = x
-
-pub test_first : (w x : Name) (xs : List Name) → same w x ≡ true → length xs ≡ number_or (find (x ∷ xs) w)
-unfolding find number_or
-test_first w x xs e = rw (same_sym x w, e)
-
-pub test_later : (w x : Name) (xs : List Name) {k : ℕ} → same w x ≡ false → k ≡ number_or (find xs w) → k ≡ number_or (find (x ∷ xs) w)
-unfolding find
-test_later w x xs e f = rw (same_sym x w, e) f
-
-pub test_none : (w : Name) → 7 ≡ number_or (find [] w)
-unfolding find number_or
-test_none w = refl
-
 pub record IsTest (x : ℕ × ℕ) (r : Cursor) : Type 0 where
   pub is_found : r.found ≡ x.0
   pub is_detail : r.detail ≡ x.1
   pub small : x.0 ≤ 6
-
-tests_few : (xs : List Name) (w : Name) {x : ℕ} → find xs w ≡ some x → x < length xs
-unfolding find
-tests_few [] w e = let z : ◌≡◌ {A = ℕ} 0 1 = cc in absurd (omega arith)
-tests_few (y ∷ xs) w {x} e = go (same y w) e (λ q. tests_few xs w q)
-  where
-    go : (b : Bool) → cond b (some (length xs)) (find xs w) ≡ some x → (find xs w ≡ some x → x < length xs) → x < suc (length xs)
-    go true q f = let z : length xs ≡ x = cc in omega arith
-    go false q f = let z = f q in omega arith
 
 module _ {s : List ℕ} (bare after : ℕ) (c : Cursor) {t : Lexeme} (n : Next s c.at t) (z : c.code ≡ 0) where
   abbrev Test : Cursor → Type 0
@@ -617,29 +614,18 @@ module _ {s : List ℕ} (bare after : ℕ) (c : Cursor) {t : Lexeme} (n : Next s
     third : rest (rest (ahead s c.at)) ≡ ahead s u.end
     third = rw n.behind m.behind
 
-    pub test_missing : {k : ℕ} → k ≡ number_or (find tests (word_of (token_at s u))) → k ≡ 7 → Test (fault_at c 90 u.at 23)
-    unfolding test
-    test_missing {k} f g = goes _ z refl (λ b. rw (n.token, e, second) (go (find tests (word_of (token_at s u))) refl (sym f ∙ g) b))
-      where
-        go : (o : Option ℕ) → find tests (word_of (token_at s u)) ≡ o → number_or o ≡ 7 → Between s c.at
-            → Told s (With s IsTest) (test_by o (length (rest (ahead s c.at))) (rest (rest (ahead s c.at))) after) (fault_at c 90 u.at 23)
-        go none p q b = unfold test_by in
-            rw n.behind (fault_told c 90 (length (ahead s t.end)) 0 23 u.at (omega arith) (let i = m.place (n.here b) in omega arith))
-        go (some x) p q b = let y = tests_few tests _ p in let v : x ≡ 7 = unfold number_or in q in absurd (omega arith)
+    pub test_missing : find tests (word_of (token_at s u)) ≡ none → Test (fault_at c 90 u.at 23)
+    unfolding test test_by
+    test_missing f = goes _ z refl (λ b. rw (n.token, e, second, f, n.behind)
+        (fault_told c 90 (length (ahead s t.end)) 0 23 u.at (omega arith) (let i = m.place (n.here b) in omega arith)))
 
-    pub test_read : {k : ℕ} → k ≡ number_or (find tests (word_of (token_at s u))) → (k ≡ 7 → ⊥) → Test (behind c u.end k after)
-    unfolding test
-    test_read {k} f g = goes _ z refl (λ b. rw (n.token, e, second) (go (find tests (word_of (token_at s u))) refl f b))
-      where
-        go : (o : Option ℕ) → find tests (word_of (token_at s u)) ≡ o → k ≡ number_or o → Between s c.at
-            → Told s (With s IsTest) (test_by o (length (rest (ahead s c.at))) (rest (rest (ahead s c.at))) after) (behind c u.end k after)
-        go none p q b = absurd (g (unfold number_or in q))
-        go (some x) p q b =
-            let y = tests_few tests _ p in
-            unfold test_by number_or in on {x = ((x, after), rest (rest (ahead s c.at)))} {r = behind c u.end k after} refl (record {
-              stands = record { here = m.here (n.here b); tokens = third };
-              value = record { is_found = q; is_detail = refl; small = omega arith };
-            })
+    pub test_read : {k : ℕ} → find tests (word_of (token_at s u)) ≡ some k → Test (behind c u.end k after)
+    unfolding test test_by
+    test_read {k} f = let y = find_below tests _ f in
+        goes _ z refl (λ b. rw (n.token, e, second, f) (on {x = ((k, after), rest (rest (ahead s c.at)))} {r = behind c u.end k after} refl (record {
+          stands = record { here = m.here (n.here b); tokens = third };
+          value = record { is_found = refl; is_detail = refl; small = omega arith };
+        })))
 
 -- all digits are passed
 pub at_end : {s : List ℕ} {from end most i v : ℕ} → Counted s from end most i v → end ≤ i → Counted s from end most end v

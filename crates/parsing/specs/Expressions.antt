@@ -1,91 +1,116 @@
 -- EXPRESSIONS: what the functions of the constructs answer, each from the answers of those that it calls.
-use Rattle.std.specs.Prelude.{◌≡◌, Bool, cond, List, [], ◌∷◌, ℕ, zero, suc, ◌+◌, ◌*◌, ◌/◌, ◌%◌, ◌≤◌, ◌<◌, eqb, length, take}
+use Rattle.std.specs.Prelude.{◌≡◌, Bool, cond, List, [], ◌∷◌, ℕ, zero, suc, ◌+◌, ◌*◌, ◌/◌, ◌%◌, ◌≤◌, ◌<◌, eqb, length, take, drop}
 use Rattle.std.proofs.Math.Path.{refl}
 use Rattle.std.proofs.Common.{arith, mod-eq_of_lt}
 use Rattle.std.proofs.Math.Bool.{true, false}
-use Rattle.std.proofs.Math.Option.{none}
+use Rattle.std.specs.Prelude as std
+use Rattle.std.specs.Prelude.{Some, None}
 use Rattle.std.proofs.lemmas.List.Edits.{sets}
 use borrow.Author.Tests.{ne_eqb, le-leb, lt-leb}
 use Rattle.node.specs.declared.Node.{Node}
 use Rattle.node.specs.declared.Node.TheVariants as node
 use Rattle.node.specs.Kinds.{width, written}
 use Rattle.tokens.specs.Quoted.{bytes}
-use Rattle.tokens.specs.Tokens.{Token, word, digits, hash, mark, arrow, word_of, same}
+use Rattle.tokens.specs.Tokens.{Token, mark, arrow, word_of, same}
 use Rattle.syntax.specs.Reader.{Out, ok, ◌>>=◌, Scope, is_name, symbol, variable}
 use Rattle.syntax.specs.Reader.{Begin, nothing, a_false, a_true, a_let, a_case, an_each, a_pair, a_list, a_name, a_hash, a_number, word_begin, begin_of}
 use Rattle.syntax.specs.Reader.{Nodes, constant}
 use Rattle.syntax.specs.Reader.{call_of}
-use Rattle.tokens.specs.Ahead.{place_at}
-use Rattle.lexing.specs.Lexing.{Between, ahead, token_at}
+use Rattle.tokens.specs.Ahead.{letter_first, place_at}
+use Rattle.lexing.specs.Lexing.{Between, ahead, part, token_of, token_at}
 use Rattle.parsing.specs.Cursor.{entered, Told, on, Behind, With, Carries, carries_then, Goes, told_then}
+use Rattle.parsing.specs.Names.{same_sym}
 use Rattle.parsing.specs.Expect.{marked, IsVariable, resolve_by}
 use Rattle.parsing.specs.Expect.{Resolves, scope_at}
-use Rattle.parsing.specs.Nodes.{Slots, none, Kept, store_kept, store_more}
+use Rattle.parsing.specs.Nodes.{Slots, none as no_slots, Kept, store_kept, store_more}
 use Rattle.parsing.specs.declared.cursor.Cursor.{Cursor}
+use Rattle.parsing.specs.declared.expr.Begin.{Begin as Begins}
+use Rattle.parsing.specs.declared.expr.Begin.TheVariants as begins
+use Rattle.lexing.specs.declared.Kind.{Kind}
+use Rattle.lexing.specs.declared.Kind.TheVariants as kind
 use Rattle.lexing.specs.declared.Lexeme.{Lexeme}
 use Rattle.parsing.specs.declared.expect.Scope.{Scope as Names}
 
--- WHAT AN EXPRESSION BEGINS WITH, as a number
-unfoldable pub begin_code : Begin → ℕ
-begin_code nothing = 0
-begin_code a_false = 1
-begin_code a_true = 2
-begin_code a_let = 3
-begin_code a_case = 4
-begin_code an_each = 5
-begin_code a_pair = 6
-begin_code a_list = 7
-begin_code (a_name w) = 8
-begin_code (a_hash ds b) = 9
-begin_code (a_number ds b) = 10
+-- WHAT AN EXPRESSION BEGINS WITH, as code has it
+unfoldable pub begin_named : Begin → std.Option Begins
+begin_named nothing = None
+begin_named a_false = Some begins.False
+begin_named a_true = Some begins.True
+begin_named a_let = Some begins.Let
+begin_named a_case = Some begins.Case
+begin_named an_each = Some begins.Each
+begin_named a_pair = Some begins.Pair
+begin_named a_list = Some begins.List
+begin_named (a_name w) = Some begins.Name
+begin_named (a_hash ds b) = Some begins.Hash
+begin_named (a_number ds b) = Some begins.Number
 
--- what it begins with, from the number and the token's bytes
-unfoldable pub begin_by : ℕ → List ℕ → Bool → Begin
-begin_by zero w b = nothing
-begin_by (suc zero) w b = a_false
-begin_by (suc (suc zero)) w b = a_true
-begin_by (suc (suc (suc zero))) w b = a_let
-begin_by (suc (suc (suc (suc zero)))) w b = a_case
-begin_by (suc (suc (suc (suc (suc zero))))) w b = an_each
-begin_by (suc (suc (suc (suc (suc (suc zero)))))) w b = a_pair
-begin_by (suc (suc (suc (suc (suc (suc (suc zero))))))) w b = a_list
-begin_by (suc (suc (suc (suc (suc (suc (suc (suc zero)))))))) w b = a_name w
-begin_by (suc (suc (suc (suc (suc (suc (suc (suc (suc zero))))))))) w b = a_hash w b
-begin_by (suc (suc (suc (suc (suc (suc (suc (suc (suc (suc n)))))))))) w b = a_number w b
+-- what is said besides: a name, or digits and whether a letter stands behind them
+unfoldable pub said : Begin → List ℕ
+said (a_name w) = w
+said (a_hash ds l) = ds
+said (a_number ds l) = ds
+said nothing = []
+said a_false = []
+said a_true = []
+said a_let = []
+said a_case = []
+said an_each = []
+said a_pair = []
+said a_list = []
 
-unfoldable pub bytes_in : Token → List ℕ
-bytes_in (word w) = w
-bytes_in (digits w b) = w
-bytes_in (hash w b) = w
-bytes_in (mark w) = w
+unfoldable pub lettered : Begin → Bool
+lettered (a_hash ds l) = l
+lettered (a_number ds l) = l
+lettered nothing = false
+lettered a_false = false
+lettered a_true = false
+lettered a_let = false
+lettered a_case = false
+lettered an_each = false
+lettered a_pair = false
+lettered a_list = false
+lettered (a_name w) = false
 
-unfoldable pub behind_it : Token → Bool
-behind_it (word w) = false
-behind_it (digits w b) = b
-behind_it (hash w b) = b
-behind_it (mark w) = false
+unfoldable pub begin_by : Begins → List ℕ → Bool → Begin
+begin_by begins.False w l = a_false
+begin_by begins.True w l = a_true
+begin_by begins.Let w l = a_let
+begin_by begins.Case w l = a_case
+begin_by begins.Each w l = an_each
+begin_by begins.Pair w l = a_pair
+begin_by begins.List w l = a_list
+begin_by begins.Name w l = a_name w
+begin_by begins.Hash w l = a_hash w l
+begin_by begins.Number w l = a_number w l
 
-pub begin_coded : (t : Token) → begin_of t ≡ begin_by (begin_code (begin_of t)) (bytes_in t) (behind_it t)
-unfolding begin_of word_begin begin_code begin_by bytes_in behind_it
-begin_coded (word w) = go (is_name w) (same w (bytes "false")) (same w (bytes "true")) (same w (bytes "let")) (same w (bytes "case")) (same w (bytes "each"))
-  where
-    go : (a b c d e f : Bool) → let x = cond a (a_name w) (cond b a_false (cond c a_true (cond d a_let (cond e a_case (cond f an_each nothing))))) in
-        x ≡ begin_by (begin_code x) w false
-    go true b c d e f = refl
-    go false true c d e f = refl
-    go false false true d e f = refl
-    go false false false true e f = refl
-    go false false false false true f = refl
-    go false false false false false true = refl
-    go false false false false false false = refl
-begin_coded (digits ds b) = refl
-begin_coded (hash ds b) = refl
-begin_coded (mark m) = go (same m (bytes "(")) (same m (bytes "["))
-  where
-    go : (a b : Bool) → let x = cond a a_pair (cond b a_list nothing) in x ≡ begin_by (begin_code x) m false
-    go true b = refl
-    go false true = refl
-    go false false = refl
+pub begin_coded : (x : Begin) {b : Begins} → Some b ≡ begin_named x → x ≡ begin_by b (said x) (lettered x)
+unfolding begin_named begin_by said lettered
+begin_coded nothing e = cc
+begin_coded a_false {b} e = let q : b ≡ begins.False = cc in rw q
+begin_coded a_true {b} e = let q : b ≡ begins.True = cc in rw q
+begin_coded a_let {b} e = let q : b ≡ begins.Let = cc in rw q
+begin_coded a_case {b} e = let q : b ≡ begins.Case = cc in rw q
+begin_coded an_each {b} e = let q : b ≡ begins.Each = cc in rw q
+begin_coded a_pair {b} e = let q : b ≡ begins.Pair = cc in rw q
+begin_coded a_list {b} e = let q : b ≡ begins.List = cc in rw q
+begin_coded (a_name w) {b} e = let q : b ≡ begins.Name = cc in rw q
+begin_coded (a_hash ds l) {b} e = let q : b ≡ begins.Hash = cc in rw q
+begin_coded (a_number ds l) {b} e = let q : b ≡ begins.Number = cc in rw q
+
+pub begin_none : (x : Begin) → None ≡ begin_named x → x ≡ nothing
+unfolding begin_named
+begin_none nothing e = refl
+begin_none a_false e = cc
+begin_none a_true e = cc
+begin_none a_let e = cc
+begin_none a_case e = cc
+begin_none an_each e = cc
+begin_none a_pair e = cc
+begin_none a_list e = cc
+begin_none (a_name w) e = cc
+begin_none (a_hash ds l) e = cc
+begin_none (a_number ds l) e = cc
 
 -- ROWS: the record of a node, filled up to eight bytes
 abbrev pub row_of : ℕ → List ℕ → List ℕ
@@ -138,73 +163,149 @@ pub record Call (s table names slots : List ℕ) (sc : Names) (t : Lexeme) (c : 
 
 -- THE LAWS OF THE SMALL FUNCTIONS
 
--- what a word begins with
-module _ (s : List ℕ) (t : Lexeme) (k : t.kind ≡ 97) where
-  word_begin_lem : begin_of (token_at s t) ≡ word_begin (word_of (token_at s t))
-  unfolding token_at begin_of word_of
-  word_begin_lem = rw k
+-- what a word begins with: a name, or what a word of the language says
+pub begin_name : (w : List ℕ) → is_name w ≡ true → Some begins.Name ≡ begin_named (word_begin w)
+unfolding word_begin begin_named
+begin_name w e = rw e
 
-  pub begin_name : is_name (word_of (token_at s t)) ≡ true → 8 ≡ begin_code (begin_of (token_at s t))
-  unfolding word_begin begin_code
-  begin_name e = rw (word_begin_lem, e)
+abbrev pub key_named : List ℕ → std.Option Begins
+key_named w =
+    cond (same (bytes "false") w) (Some begins.False)
+    (cond (same (bytes "true") w) (Some begins.True)
+    (cond (same (bytes "let") w) (Some begins.Let) (cond (same (bytes "case") w) (Some begins.Case) (cond (same (bytes "each") w) (Some begins.Each) None))))
 
-  module _ (e : is_name (word_of (token_at s t)) ≡ false) where
-    pub begin_false : same (word_of (token_at s t)) (bytes "false") ≡ true → 1 ≡ begin_code (begin_of (token_at s t))
-    unfolding word_begin begin_code
-    begin_false a = rw (word_begin_lem, e, a)
+pub begin_key : (w : List ℕ) → is_name w ≡ false → key_named w ≡ begin_named (word_begin w)
+unfolding word_begin begin_named
+begin_key w e = rw (e, same_sym (bytes "false") w, same_sym (bytes "true") w, same_sym (bytes "let") w, same_sym (bytes "case") w, same_sym (bytes "each") w)
+    (go (same w (bytes "false")) (same w (bytes "true")) (same w (bytes "let")) (same w (bytes "case")) (same w (bytes "each")))
+  where
+    go : (b c d e f : Bool) → cond b (Some begins.False) (cond c (Some begins.True) (cond d (Some begins.Let) (cond e (Some begins.Case)
+        (cond f (Some begins.Each) None)))) ≡ begin_named (cond b a_false (cond c a_true (cond d a_let (cond e a_case (cond f an_each nothing)))))
+    go true c d e f = refl
+    go false true d e f = refl
+    go false false true e f = refl
+    go false false false true f = refl
+    go false false false false true = refl
+    go false false false false false = refl
 
-    module _ (a : same (word_of (token_at s t)) (bytes "false") ≡ false) where
-      pub begin_true : same (word_of (token_at s t)) (bytes "true") ≡ true → 2 ≡ begin_code (begin_of (token_at s t))
-      unfolding word_begin begin_code
-      begin_true b = rw (word_begin_lem, e, a, b)
+-- which tokens begin with a name, and which with a number
+word_said : (w : List ℕ) → Some begins.Name ≡ begin_named (word_begin w) → said (word_begin w) ≡ w
+unfolding word_begin begin_named said
+word_said w = go (is_name w) (same w (bytes "false")) (same w (bytes "true")) (same w (bytes "let")) (same w (bytes "case")) (same w (bytes "each"))
+  where
+    go : (a b c d e f : Bool) → let x = cond a (a_name w) (cond b a_false (cond c a_true (cond d a_let (cond e a_case (cond f an_each nothing))))) in
+        Some begins.Name ≡ begin_named x → said x ≡ w
+    go true b c d e f q = refl
+    go false true c d e f q = cc
+    go false false true d e f q = cc
+    go false false false true e f q = cc
+    go false false false false true f q = cc
+    go false false false false false true q = cc
+    go false false false false false false q = cc
 
-      module _ (b : same (word_of (token_at s t)) (bytes "true") ≡ false) where
-        pub begin_let : same (word_of (token_at s t)) (bytes "let") ≡ true → 3 ≡ begin_code (begin_of (token_at s t))
-        unfolding word_begin begin_code
-        begin_let c = rw (word_begin_lem, e, a, b, c)
+no_word_number : (w : List ℕ) → Some begins.Number ≡ begin_named (word_begin w) → ⊥
+unfolding word_begin begin_named
+no_word_number w = go (is_name w) (same w (bytes "false")) (same w (bytes "true")) (same w (bytes "let")) (same w (bytes "case")) (same w (bytes "each"))
+  where
+    go : (a b c d e f : Bool)
+        → Some begins.Number ≡ begin_named (cond a (a_name w) (cond b a_false (cond c a_true (cond d a_let (cond e a_case (cond f an_each nothing)))))) → ⊥
+    go true b c d e f q = cc
+    go false true c d e f q = cc
+    go false false true d e f q = cc
+    go false false false true e f q = cc
+    go false false false false true f q = cc
+    go false false false false false true q = cc
+    go false false false false false false q = cc
 
-        module _ (c : same (word_of (token_at s t)) (bytes "let") ≡ false) where
-          pub begin_case : same (word_of (token_at s t)) (bytes "case") ≡ true → 4 ≡ begin_code (begin_of (token_at s t))
-          unfolding word_begin begin_code
-          begin_case d = rw (word_begin_lem, e, a, b, c, d)
+module _ (m : List ℕ) where
+  no_mark_name : Some begins.Name ≡ begin_named (begin_of (mark m)) → ⊥
+  unfolding begin_of begin_named
+  no_mark_name = go (same m (bytes "(")) (same m (bytes "["))
+    where
+      go : (a b : Bool) → Some begins.Name ≡ begin_named (cond a a_pair (cond b a_list nothing)) → ⊥
+      go true b q = cc
+      go false true q = cc
+      go false false q = cc
 
-          module _ (d : same (word_of (token_at s t)) (bytes "case") ≡ false) where
-            pub begin_each : same (word_of (token_at s t)) (bytes "each") ≡ true → 5 ≡ begin_code (begin_of (token_at s t))
-            unfolding word_begin begin_code
-            begin_each f = rw (word_begin_lem, e, a, b, c, d, f)
+  no_mark_number : Some begins.Number ≡ begin_named (begin_of (mark m)) → ⊥
+  unfolding begin_of begin_named
+  no_mark_number = go (same m (bytes "(")) (same m (bytes "["))
+    where
+      go : (a b : Bool) → Some begins.Number ≡ begin_named (cond a a_pair (cond b a_list nothing)) → ⊥
+      go true b q = cc
+      go false true q = cc
+      go false false q = cc
 
-            pub begin_none : same (word_of (token_at s t)) (bytes "each") ≡ false → 0 ≡ begin_code (begin_of (token_at s t))
-            unfolding word_begin begin_code
-            begin_none f = rw (word_begin_lem, e, a, b, c, d, f)
-
--- and any other token
 module _ (s : List ℕ) (t : Lexeme) where
-  pub begin_digits : t.kind ≡ 48 → 10 ≡ begin_code (begin_of (token_at s t))
-  unfolding token_at begin_of begin_code
+  pub name_kind : Some begins.Name ≡ begin_named (begin_of (token_at s t)) → t.kind ≡ kind.Word
+  unfolding token_of token_at
+  name_kind = go t.kind
+    where
+      go : (k : Kind) → Some begins.Name ≡ begin_named (begin_of (token_of s t.at t.end k)) → k ≡ kind.Word
+      go kind.Word q = refl
+      go kind.Digits q = unfold begin_of begin_named in cc
+      go kind.Hash q = unfold begin_of begin_named in cc
+      go kind.Arrow q = absurd (no_mark_name arrow q)
+      go kind.End q = absurd (no_mark_name [] q)
+      go (kind.Mark c) q = absurd (no_mark_name (c ∷ []) q)
+
+  pub number_kind : Some begins.Number ≡ begin_named (begin_of (token_at s t)) → t.kind ≡ kind.Digits
+  unfolding token_of token_at
+  number_kind = go t.kind
+    where
+      go : (k : Kind) → Some begins.Number ≡ begin_named (begin_of (token_of s t.at t.end k)) → k ≡ kind.Digits
+      go kind.Word q = absurd (no_word_number (part s t.at t.end) (unfold begin_of in q))
+      go kind.Digits q = refl
+      go kind.Hash q = unfold begin_of begin_named in cc
+      go kind.Arrow q = absurd (no_mark_number arrow q)
+      go kind.End q = absurd (no_mark_number [] q)
+      go (kind.Mark c) q = absurd (no_mark_number (c ∷ []) q)
+
+  pub name_said : Some begins.Name ≡ begin_named (begin_of (token_at s t)) → said (begin_of (token_at s t)) ≡ word_of (token_at s t)
+  unfolding token_of token_at begin_of word_of
+  name_said q = let k = name_kind q in rw k (word_said (part s t.at t.end) (rw k at q))
+
+  pub number_said : t.kind ≡ kind.Digits
+      → (said (begin_of (token_at s t)) ≡ part s t.at t.end) × (lettered (begin_of (token_at s t)) ≡ letter_first (drop t.end s))
+  unfolding token_of token_at begin_of said lettered
+  number_said k = (rw k, rw k)
+
+-- what any other token begins with
+module _ (s : List ℕ) (t : Lexeme) where
+  pub begin_word : t.kind ≡ kind.Word → begin_named (word_begin (word_of (token_at s t))) ≡ begin_named (begin_of (token_at s t))
+  unfolding token_at token_of begin_of word_of
+  begin_word k = rw k
+
+  pub begin_digits : t.kind ≡ kind.Digits → Some begins.Number ≡ begin_named (begin_of (token_at s t))
+  unfolding token_at token_of begin_of begin_named
   begin_digits k = rw k
 
-  pub begin_hash : t.kind ≡ 35 → 9 ≡ begin_code (begin_of (token_at s t))
-  unfolding token_at begin_of begin_code
+  pub begin_hash : t.kind ≡ kind.Hash → Some begins.Hash ≡ begin_named (begin_of (token_at s t))
+  unfolding token_at token_of begin_of begin_named
   begin_hash k = rw k
 
-  pub begin_pair : t.kind ≡ 40 → 6 ≡ begin_code (begin_of (token_at s t))
-  unfolding token_at begin_of begin_code same
+  pub begin_pair : t.kind ≡ kind.Mark 40 → Some begins.Pair ≡ begin_named (begin_of (token_at s t))
+  unfolding token_at token_of begin_of begin_named same
   begin_pair k = rw k
 
-  pub begin_list : t.kind ≡ 91 → 7 ≡ begin_code (begin_of (token_at s t))
-  unfolding token_at begin_of begin_code same
+  pub begin_list : t.kind ≡ kind.Mark 91 → Some begins.List ≡ begin_named (begin_of (token_at s t))
+  unfolding token_at token_of begin_of begin_named same
   begin_list k = rw k
 
-  pub begin_mark : (t.kind ≡ 97 → ⊥) → (t.kind ≡ 48 → ⊥) → (t.kind ≡ 35 → ⊥) → (t.kind ≡ 40 → ⊥) → (t.kind ≡ 91 → ⊥)
-      → 0 ≡ begin_code (begin_of (token_at s t))
-  unfolding token_at
-  begin_mark a b c d e =
-      rw (ne_eqb t.kind 97 a, ne_eqb t.kind 48 b, ne_eqb t.kind 35 c) (go (eqb t.kind 65) (eqb t.kind 90))
-    where
-      go : (x y : Bool) → 0 ≡ begin_code (begin_of (cond x (mark arrow) (cond y (mark []) (mark (t.kind ∷ [])))))
-      go true y = unfold begin_of begin_code same in refl
-      go false true = unfold begin_of begin_code same in refl
-      go false false = unfold begin_of begin_code same in rw (ne_eqb t.kind 40 d, ne_eqb t.kind 91 e)
+  pub begin_arrow : t.kind ≡ kind.Arrow → None ≡ begin_named (begin_of (token_at s t))
+  unfolding token_at token_of begin_of begin_named same
+  begin_arrow k = rw k
+
+  pub begin_end : t.kind ≡ kind.End → None ≡ begin_named (begin_of (token_at s t))
+  unfolding token_at token_of begin_of begin_named same
+  begin_end k = rw k
+
+  -- a mark that begins nothing
+  pub begin_mark : {c : ℕ} → t.kind ≡ kind.Mark c → (c ≡ 40 → ⊥) → (c ≡ 91 → ⊥) → None ≡ begin_named (begin_of (token_at s t))
+  unfolding token_at token_of begin_of begin_named same
+  begin_mark {c} k p q = rw (k, ne_eqb c 40 p, ne_eqb c 91 q)
+
+pub ruleset begin_tokens = (begin_word, begin_digits, begin_hash, begin_pair, begin_list, begin_arrow, begin_end)
 
 -- A STEP FROM ANY TOKENS: those behind its cursor
 pub goes_told : {s : List ℕ} {X : Type 0} {Q : X → Cursor → Type 0} {f : List Token → Out X} {c r : Cursor} → Goes s Q f c r → c.code ≡ 0
@@ -245,7 +346,7 @@ var_told {s} names {slots} {slots'} {sc} {c} {x} {r} w g e f = rw f (record {
           counted = omega arith;
           some = omega arith;
           held = stored_more slots w.few w.slots_long
-              (row_of 16 (x.found % 256 ∷ [])) refl e {x = node.Var v} (var_row x.found v i y) none;
+              (row_of 16 (x.found % 256 ∷ [])) refl e {x = node.Var v} (var_row x.found v i y) no_slots;
         };
       }));
 })
@@ -258,7 +359,7 @@ pub constant_small : (slots : List ℕ) {slots' : List ℕ} {n : ℕ} (v : ℕ) 
     → slots' ≡ sets slots (8 * n) (row_of 20 (v / 256 % 256 ∷ v % 256 ∷ [])) → Constant slots n v slots'
 unfolding constant
 constant_small slots v few long h e = rw (le-leb v 65535 h) (stored_more slots few long
-    (row_of 20 (v / 256 % 256 ∷ v % 256 ∷ [])) refl e {x = node.Number v} row none)
+    (row_of 20 (v / 256 % 256 ∷ v % 256 ∷ [])) refl e {x = node.Number v} row no_slots)
   where
     row : take (width (node.Number v)) (row_of 20 (v / 256 % 256 ∷ v % 256 ∷ [])) ≡ written (node.Number v)
     row = unfold width written in rw (small_mod (v / 256) (omega arith))
@@ -267,7 +368,7 @@ pub constant_wide : (slots : List ℕ) {slots' : List ℕ} {n : ℕ} (v : ℕ) �
     → slots' ≡ sets slots (8 * n) (row_of 29 (v / 256 / 256 / 256 % 256 ∷ v / 256 / 256 % 256 ∷ v / 256 % 256 ∷ v % 256 ∷ [])) → Constant slots n v slots'
 unfolding constant
 constant_wide slots v few long g h e = rw (lt-leb v 65535 g) (stored_more slots few long
-    (row_of 29 (v / 256 / 256 / 256 % 256 ∷ v / 256 / 256 % 256 ∷ v / 256 % 256 ∷ v % 256 ∷ [])) refl e {x = node.Wide v} row none)
+    (row_of 29 (v / 256 / 256 / 256 % 256 ∷ v / 256 / 256 % 256 ∷ v / 256 % 256 ∷ v % 256 ∷ [])) refl e {x = node.Wide v} row no_slots)
   where
     row : take (width (node.Wide v)) (row_of 29 (v / 256 / 256 / 256 % 256 ∷ v / 256 / 256 % 256 ∷ v / 256 % 256 ∷ v % 256 ∷ [])) ≡ written (node.Wide v)
     row = unfold width written in rw (small_mod (v / 256 / 256 / 256) (omega arith))
@@ -275,8 +376,8 @@ constant_wide slots v few long g h e = rw (lt-leb v 65535 g) (stored_more slots 
 -- A CALL
 pub call_told : {s table : List ℕ} (names : List ℕ) {slots slots' : List ℕ} {sc : Names} {t : Lexeme} {c w x m y e r : Cursor}
     → Leafy (length names) (length slots) sc c
-    → Resolves s table t c w → Goes s (With s (IsVariable sc)) (variable (scope_at s names sc)) w x → Goes s (Behind s) (symbol (marked 44) 9) x m
-    → Goes s (With s (IsVariable sc)) (variable (scope_at s names sc)) m y → Goes s (Behind s) (symbol (marked 41) 10) y e
+    → Resolves s table t c w → Goes s (With s (IsVariable sc)) (variable (scope_at s names sc)) w x → Goes s (Behind s) (symbol (marked (kind.Mark 44)) 9) x m
+    → Goes s (With s (IsVariable sc)) (variable (scope_at s names sc)) m y → Goes s (Behind s) (symbol (marked (kind.Mark 41)) 10) y e
     → slots' ≡ sets slots (8 * c.count) (row_of 26 (w.found % 256 ∷ x.found % 256 ∷ y.found % 256 ∷ [])) → r ≡ entered e
     → Call s table names slots sc t c slots' r
 unfolding call_of marked
@@ -298,7 +399,7 @@ call_told {s} {table} names {slots} {slots'} {sc} {t} {c} {w} {x} {m} {y} {e} {r
           some = omega arith;
           held = stored_more slots k.few k.slots_long (row_of 26 (w.found % 256 ∷ x.found % 256 ∷ y.found % 256 ∷ [])) refl q {x = node.Call v a b₁}
               (call_row w.found x.found y.found v a b₁ uw.is_callee.is_found ux.value.is_found uy.value.is_found
-              uw.is_callee.small (ux.value.small many) (uy.value.small many)) none;
+              uw.is_callee.small (ux.value.small many) (uy.value.small many)) no_slots;
         };
       }))))));
 })

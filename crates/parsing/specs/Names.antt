@@ -1,21 +1,33 @@
 -- WORDS AND NAMES as code has them: a name is the place where it begins, and names in scope are places one behind the other.
 use Rattle.std.specs.Prelude.{◌≡◌, Bool, ◌&&◌, ◌||◌, cond, eqb, leb, length, take}
 use Rattle.std.proofs.Math.Path.{refl, ap}
-use Rattle.std.proofs.Common.{sym, ◌∙◌, get_or-drop, get_or-take, take-take}
+use Rattle.std.proofs.Common.{sym, ◌∙◌, get_or-drop, get_or-take, take-take, drop-drop, length-drop}
+use Rattle.std.proofs.Math.Seq.{take-length}
+use Rattle.std.specs.Bool.{Decides}
+use Rattle.std.specs.Cmp.Lexicographic.{pointwise}
 use Rattle.std.proofs.Math.Bool.{true, false, not}
-use Rattle.std.proofs.Math.Option.{none, some}
+use Rattle.std.proofs.Math.Option.{Option, none, some}
+use Rattle.std.specs.Prelude as std
+use Rattle.std.specs.Prelude.{Some, None, IsSome}
 use mathlib.Core.List.{List, [], ◌∷◌, ◌++◌}
 use Prim.Native.Nat.{ℕ, zero, suc, ◌+◌, ◌-◌, ◌≤◌, ◌<◌}
 use native.Mathlib.Omega.{arith}
 use Rattle.std.proofs.Math.ListN.{get_or, drop, drop_of_length-le}
 use borrow.Author.Tests.{ne_eqb, eq-eqb, eqb-true, eqb-false, le-leb, lt-leb, not-true}
-use Rattle.tokens.specs.Tokens.{digits, hash, mark, class_of, word_of, same}
-use Rattle.syntax.specs.Reader.{Name, find, is_some, words, wild, sent, some_byte, is_name}
+use Rattle.tokens.specs.Tokens.{class_of, word_of, same}
+use Rattle.syntax.specs.Reader.{Name, find, is_some, words, wild, sent, is_name}
 use Rattle.tokens.specs.Laid.{shuts}
 use Rattle.tokens.specs.Ahead.{all_in, is_part}
 use Rattle.tokens.specs.Same.{and-true}
-use Rattle.lexing.specs.Lexing.{in_run, part, part_length, part_behind, at_byte, token_at, Shape}
+use Rattle.lexing.specs.Lexing.{in_run, part, part_behind, at_byte, token_of, token_at, Shape}
+use Rattle.lexing.specs.declared.Tail.TheVariants as tail
+use Rattle.lexing.specs.declared.Kind.{Kind}
+use Rattle.lexing.specs.declared.Kind.TheVariants as kind
 use Rattle.lexing.specs.declared.Lexeme.{Lexeme}
+
+-- a test that fails
+pub fails : {r : Bool} {P : Type 0} → Decides r P → r ≡ false → P → ⊥
+fails d e p = let q = d.1 p in cc
 
 -- SPELLING
 
@@ -44,100 +56,68 @@ same_long (a ∷ x) (b ∷ y) h = go (eqb a b) (same_long x y (λ q. h (ap suc q
     go true e = e
     go false e = refl
 
--- the first i bytes are the same
-pub record Agree (x y : List ℕ) (i : ℕ) : Type 0 where
-  pub so_far : same x y ≡ same (drop i x) (drop i y)
-
-pub agree_none : (x y : List ℕ) → Agree x y 0
-agree_none x y = record { so_far = refl }
-
-module _ {x y : List ℕ} {i : ℕ} (w : Agree x y i) where
-  pub agree_more : i < length x → i < length y → get_or x i 0 ≡ get_or y i 0 → Agree x y (i + 1)
-  unfolding same
-  agree_more h k e = record { so_far = w.so_far ∙ rw (at_byte x i h, at_byte y i k, e, eq-eqb (get_or y i 0) (get_or y i 0) refl) }
-
-  pub agree_not : i < length x → i < length y → (get_or x i 0 ≡ get_or y i 0 → ⊥) → false ≡ same x y
-  unfolding same
-  agree_not h k e = rw (w.so_far, at_byte x i h, at_byte y i k, ne_eqb (get_or x i 0) (get_or y i 0) e)
-
-  pub agree_all : length x ≤ i → length y ≤ i → true ≡ same x y
-  unfolding same
-  agree_all h k = rw (w.so_far, drop_of_length-le x h, drop_of_length-le y k)
+-- as two slices are compared
+pub same_bytes : (x y : List ℕ) → pointwise eqb x y ≡ same x y
+unfolding same
+same_bytes [] [] = refl
+same_bytes [] (b ∷ y) = refl
+same_bytes (a ∷ x) [] = refl
+same_bytes (a ∷ x) (b ∷ y) = ap (λ (t : Bool). eqb a b && t) (same_bytes x y)
 
 pub part_at_lem : (s : List ℕ) (at end i : ℕ) → i < end - at → get_or (part s at end) i 0 ≡ get_or s (at + i) 0
 part_at_lem s at end i h = rw (get_or-take, get_or-drop)
 
 -- THE WORD OF A TOKEN
-no_word : (a b c d : Bool) (v w x y z : List ℕ) (e f : Bool)
-    → word_of (cond a (digits v e) (cond b (hash w f) (cond c (mark x) (cond d (mark y) (mark z))))) ≡ []
-unfolding word_of
-no_word true b c d v w x y z e f = refl
-no_word false true c d v w x y z e f = refl
-no_word false false true d v w x y z e f = refl
-no_word false false false true v w x y z e f = refl
-no_word false false false false v w x y z e f = refl
-
 module _ (s : List ℕ) (t : Lexeme) where
-  pub word_is : t.kind ≡ 97 → word_of (token_at s t) ≡ part s t.at t.end
-  unfolding token_at word_of
+  pub word_is : t.kind ≡ kind.Word → word_of (token_at s t) ≡ part s t.at t.end
+  unfolding token_of token_at word_of
   word_is e = rw e
 
-  pub word_none : (t.kind ≡ 97 → ⊥) → word_of (token_at s t) ≡ []
-  unfolding token_at word_of
-  word_none h = rw (ne_eqb t.kind 97 h) (no_word (eqb t.kind 48) (eqb t.kind 35) (eqb t.kind 65) (eqb t.kind 90) _ _ _ _ _ _ _)
-
-  pub same_none : (w : List ℕ) → 0 < length w → (t.kind ≡ 97 → ⊥) → false ≡ same (word_of (token_at s t)) w
-  unfolding same
-  same_none [] h k = absurd (omega arith)
-  same_none (c ∷ w) h k = rw (word_none k)
-
--- A WORD OF THE LANGUAGE: one of these, asked one after the other
-abbrev or_same : Name → Bool → List Name → Bool
-or_same w b [] = b
-or_same w b (x ∷ xs) = or_same w (b || same w x) xs
-
-or_found : (w : Name) (b : Bool) (xs : List Name) → or_same w b xs ≡ b || is_some (find xs w)
-unfolding find
-or_found w true [] = refl
-or_found w false [] = refl
-or_found w b (x ∷ xs) = or_found w (b || same w x) xs ∙ rw (same_sym w x) (go b (same x w))
-  where
-    go : (b d : Bool) → (b || d) || is_some (find xs w) ≡ b || is_some (cond d (some (length xs)) (find xs w))
-    go true d = refl
-    go false true = refl
-    go false false = refl
-
-pub any_word : (w x : Name) (xs : List Name) → or_same w (same w x) xs ≡ is_some (find (x ∷ xs) w)
-any_word w x xs = or_found w false (x ∷ xs)
-
-pub either : {a b c d : Bool} → a ≡ b → c ≡ d → a || c ≡ b || d
-either e f = rw (e, f)
-
--- A NAME
-module _ {s : List ℕ} {t : Lexeme} (g : Shape s t) where
-  pub no_name : (t.kind ≡ 97 → ⊥) → false ≡ is_name (word_of (token_at s t))
-  unfolding is_name
-  no_name h = rw (word_none s t h)
-
-  word_some : t.kind ≡ 97 → some_byte (word_of (token_at s t)) ≡ true
-  word_some e = go (word_of (token_at s t)) (ap length (word_is s t e) ∙ part_length s t.at t.end g.inside)
+  pub word_none : (t.kind ≡ kind.Word → ⊥) → word_of (token_at s t) ≡ []
+  unfolding token_of token_at word_of
+  word_none h = go t.kind h
     where
-      go : (w : Name) → length w ≡ t.end - t.at → some_byte w ≡ true
-      go [] q = absurd (omega (arith, (g.a_word e).0))
-      go (c ∷ w) q = refl
+      go : (k : Kind) → (k ≡ kind.Word → ⊥) → word_of (token_of s t.at t.end k) ≡ []
+      go kind.Word h = absurd (h refl)
+      go kind.Digits h = refl
+      go kind.Hash h = refl
+      go kind.Arrow h = refl
+      go kind.End h = refl
+      go (kind.Mark c) h = refl
 
-  pub name_told : t.kind ≡ 97 → {b : Bool} → same (word_of (token_at s t)) wild ≡ false → b ≡ is_some (find words (word_of (token_at s t)))
-      → not b ≡ is_name (word_of (token_at s t))
-  unfolding is_name
-  name_told e f k = rw (word_some e, f, k)
+-- A NAME: any word of six bytes, or of eight and more, is one
+abbrev no_long : ℕ → List Name → Bool
+no_long n [] = true
+no_long n (x ∷ xs) = not (eqb (length x) n) && no_long n xs
 
-pub wild_no_name : (w : Name) → same w wild ≡ true → false ≡ is_name w
+find_long : (xs : List Name) (w : Name) → no_long (length w) xs ≡ true → find xs w ≡ none
+unfolding find
+find_long [] w h = refl
+find_long (x ∷ xs) w h =
+    let a = and-true (not (eqb (length x) (length w))) (no_long (length w) xs) h in
+    rw (sym (same_long x w (eqb-false (length x) (length w) (not-true _ a.0)))) (find_long xs w a.1)
+
+pub long_name : (w : Name) → no_long (length w) words ≡ true → 1 < length w → true ≡ is_name w
 unfolding is_name
-wild_no_name w e = go (some_byte w)
+long_name [] h l = absurd (omega arith)
+long_name (c ∷ w) h l = rw (sym (same_long (c ∷ w) wild (λ q. omega arith)), find_long words (c ∷ w) h)
+
+pub name_six : (w : Name) → 6 ≤ length w → length w < 7 → true ≡ is_name w
+name_six w h k = let e : length w ≡ 6 = omega arith in long_name w (rw e) (omega arith)
+
+pub name_eight : (w : Name) → 8 ≤ length w → true ≡ is_name w
+name_eight w h = long_name w (more (length w) h) (omega arith)
   where
-    go : (b : Bool) → false ≡ (b && (not (same w wild) && not (is_some (find words w))))
-    go true = rw e
-    go false = refl
+    more : (n : ℕ) → 8 ≤ n → no_long n words ≡ true
+    more n h = rw (
+      ne_eqb 4 n (λ q. omega arith),
+      ne_eqb 7 n (λ q. omega arith),
+      ne_eqb 2 n (λ q. omega arith),
+      ne_eqb 3 n (λ q. omega arith),
+      ne_eqb 5 n (λ q. omega arith),
+    )
+
+pub ruleset long_names = (name_six, name_eight)
 
 -- THE NAME AT A PLACE: as far as the word goes; at the end of the text stands `sent`
 unfoldable pub word_from : List ℕ → Name
@@ -166,55 +146,36 @@ word_all (c ∷ w) b h k = go (is_part (class_of c)) h (λ q. word_all w b q k)
     go false q f = let z : ◌≡◌ {A = ℕ} 0 1 = cc in absurd (omega arith)
 
 -- the name at a word's place is the word
-pub name_read : {s : List ℕ} {t : Lexeme} → Shape s t → t.kind ≡ 97 → name_at s t.at ≡ word_of (token_at s t)
+pub name_read : {s : List ℕ} {t : Lexeme} → Shape s t → t.kind ≡ kind.Word → name_at s t.at ≡ word_of (token_at s t)
 name_read {s} {t} g e =
     let w = g.a_word e in
     name_word s t.at (omega (arith, w.0, g.inside)) ∙ ap word_from (sym (part_behind s t.at t.end g.order))
     ∙ word_all (part s t.at t.end) (drop t.end s) w.1 w.2 ∙ sym (word_is s t e)
 
--- A NAME COMPARED with a word, byte by byte
-all_at : (w : List ℕ) (i : ℕ) → all_in is_part w ≡ true → i < length w → is_part (class_of (get_or w i 0)) ≡ true
-all_at [] i h k = absurd (omega arith)
-all_at (c ∷ w) zero h k = (and-true (is_part (class_of c)) (all_in is_part w) h).0
-all_at (c ∷ w) (suc i) h k = all_at w i (and-true (is_part (class_of c)) (all_in is_part w) h).1 (omega arith)
+-- A NAME COMPARED with a word: the text goes on with the word, and there the name ends
+starts_same : (l w : List ℕ) → all_in is_part w ≡ true → same (word_from l) w ≡ pointwise eqb w (take (length w) l) && shuts (drop (length w) l)
+unfolding word_from same shuts
+starts_same [] [] a = refl
+starts_same [] (b ∷ w) a = refl
+starts_same (c ∷ l) [] a = go (is_part (class_of c))
+  where
+    go : (t : Bool) → same (cond t (c ∷ word_from l) []) [] ≡ not t
+    go true = refl
+    go false = refl
+starts_same (c ∷ l) (b ∷ w) a = by (eqb b c) refl (starts_same l w)
+  where
+    other : (t : Bool) → eqb c b ≡ false → same (cond t (c ∷ word_from l) []) (b ∷ w) ≡ false
+    other true e = rw e
+    other false e = refl
 
-pub record Alike (s : List ℕ) (p : ℕ) (w : List ℕ) (i : ℕ) : Type 0 where
-  pub so_far : same (word_from (drop p s)) w ≡ same (word_from (drop (p + i) s)) (drop i w)
-
-pub alike_none : (s : List ℕ) (p : ℕ) (w : List ℕ) → Alike s p w 0
-alike_none s p w = let e : p + 0 ≡ p = omega arith in record { so_far = rw e }
-
-module _ {s : List ℕ} {p : ℕ} {w : List ℕ} {i : ℕ} (k : Alike s p w i) where
-  pub alike_short : length s ≤ p + i → i < length w → false ≡ same (word_from (drop p s)) w
-  unfolding word_from same
-  alike_short h j = rw (k.so_far, drop_of_length-le s h, at_byte w i j)
-
-  pub alike_more : all_in is_part w ≡ true → p + i < length s → i < length w → get_or s (p + i) 0 ≡ get_or w i 0 → Alike s p w (i + 1)
-  unfolding word_from same
-  alike_more a h j e =
-      let c = get_or w i 0 in
-      let z : p + i + 1 ≡ p + (i + 1) = omega arith in
-      record { so_far = k.so_far ∙ rw (at_byte s (p + i) h, at_byte w i j, e, all_at w i a j, eq-eqb c c refl, z) }
-
-  pub alike_not : p + i < length s → i < length w → (get_or s (p + i) 0 ≡ get_or w i 0 → ⊥) → false ≡ same (word_from (drop p s)) w
-  unfolding word_from same
-  alike_not h j e = rw (k.so_far, at_byte s (p + i) h, at_byte w i j) (go (is_part (class_of (get_or s (p + i) 0))))
-    where
-      go : (b : Bool) → false ≡ same (cond b (get_or s (p + i) 0 ∷ word_from (drop (p + i + 1) s)) []) (get_or w i 0 ∷ drop (i + 1) w)
-      go true = rw (ne_eqb (get_or s (p + i) 0) (get_or w i 0) e)
-      go false = refl
-
-  pub alike_all : length w ≤ i → shuts (drop (p + i) s) ≡ same (word_from (drop p s)) w
-  unfolding word_from same shuts
-  alike_all h = rw (k.so_far, drop_of_length-le w h) (go (drop (p + i) s))
-    where
-      go : (l : List ℕ) → shuts l ≡ same (word_from l) []
-      go [] = refl
-      go (c ∷ l) = by (is_part (class_of c)) (word_from l)
-        where
-          by : (b : Bool) (x : List ℕ) → not b ≡ same (cond b (c ∷ x) []) []
-          by true x = refl
-          by false x = refl
+    by : (t : Bool) → eqb b c ≡ t → (all_in is_part w ≡ true → same (word_from l) w ≡ pointwise eqb w (take (length w) l) && shuts (drop (length w) l))
+        → same (cond (is_part (class_of c)) (c ∷ word_from l) []) (b ∷ w)
+        ≡ (t && pointwise eqb w (take (length w) l)) && shuts (drop (length w) l)
+    by true e f =
+        let h = and-true (is_part (class_of b)) (all_in is_part w) a in
+        let q : c ≡ b = sym (eqb-true b c e) in
+        rw (q, h.0, eq-eqb b b refl) (f h.1)
+    by false e f = other (is_part (class_of c)) (eqb_sym c b ∙ e)
 
 -- NAMES IN SCOPE: so many places from `base` on, the last of them on top
 module _ (s names : List ℕ) (base : ℕ) where
@@ -241,59 +202,70 @@ stack_kept s names names' base (suc m) e =
     ∙ get_or-take (suc (base + m)) names' (base + m) 0 (omega arith) in
     rw (i, stack_kept s names names' base m g)
 
--- the number of a name, or how many there are
-pub record Found (s names : List ℕ) (base many : ℕ) (w : Name) (r : ℕ) : Type 0 where
-  pub most : r ≤ many
-  pub is : r < many → find (stack_of s names base many) w ≡ some r
-  pub not : r ≡ many → find (stack_of s names base many) w ≡ none
+-- the number of a name, or none
+abbrev pub found : Option ℕ → std.Option ℕ
+found none = None
+found (some x) = Some x
+
+pub found_some : {o : Option ℕ} {x : ℕ} → Some x ≡ found o → o ≡ some x
+found_some {o = none} e = cc
+found_some {o = some y} e = cc
+
+pub found_none : {o : Option ℕ} → None ≡ found o → o ≡ none
+found_none {o = none} e = refl
+found_none {o = some y} e = cc
+
+pub found_is : (o : Option ℕ) {r : std.Option ℕ} (b : Bool) → r ≡ found o → std.is_some r ≡ b → is_some o ≡ b
+found_is o b e h = go o (ap std.is_some (sym e) ∙ h)
+  where
+    go : (o : Option ℕ) → std.is_some (found o) ≡ b → is_some o ≡ b
+    go none q = q
+    go (some x) q = q
 
 -- those above i are other names
 pub record Above (s names : List ℕ) (base many : ℕ) (w : Name) (i : ℕ) : Type 0 where
-  pub below : i ≤ many
   pub others : find (stack_of s names base many) w ≡ find (stack_of s names base i) w
 
 pub above_all : (s names : List ℕ) (base many : ℕ) (w : Name) → Above s names base many w many
-above_all s names base many w = record { below = omega arith; others = refl }
+above_all s names base many w = record { others = refl }
 
 module _ {s names : List ℕ} {base many : ℕ} {w : Name} where
-  pub above_one : {i : ℕ} → Above s names base many w i → 0 < i → same (name_at s (get_or names (base + i - 1) 0)) w ≡ false → Above s names base many w (i - 1)
+  pub above_one : {i : ℕ} → Above s names base many w (suc i) → same (name_at s (get_or names (base + i) 0)) w ≡ false → Above s names base many w i
   unfolding find stack_of
-  above_one {i = zero} k h e = absurd (omega arith)
-  above_one {i = suc i} k h e =
-      let z : base + suc i - 1 ≡ base + i = omega arith in
-      let y : suc i - 1 ≡ i = omega arith in
-      record { below = omega (arith, k.below); others = k.others ∙ rw (y, rw z at e) }
+  above_one k e = record { others = k.others ∙ rw e }
 
-  pub above_found : {i : ℕ} → Above s names base many w i → 0 < i → same (name_at s (get_or names (base + i - 1) 0)) w ≡ true →
-      Found s names base many w (i - 1)
+  pub above_found : {i : ℕ} → Above s names base many w i → 0 < i → same (name_at s (get_or names (base + (i - 1)) 0)) w ≡ true
+      → Some (i - 1) ≡ found (find (stack_of s names base many) w)
   unfolding find stack_of
   above_found {i = zero} k h e = absurd (omega arith)
   above_found {i = suc i} k h e =
-      let z : base + suc i - 1 ≡ base + i = omega arith in
-      let y : suc i - 1 ≡ i = omega arith in
-      record {
-        most = omega (arith, k.below);
-        is = λ q. k.others ∙ rw (y, rw z at e, stack-length s names base i);
-        not = λ q. absurd (omega (arith, k.below));
-      }
+      let z : suc i - 1 ≡ i = omega arith in
+      rw (k.others, z, rw z at e, stack-length s names base i)
 
-  pub above_none : {i : ℕ} → Above s names base many w i → i ≤ 0 → Found s names base many w many
+  pub above_none : Above s names base many w 0 → None ≡ found (find (stack_of s names base many) w)
   unfolding find stack_of
-  above_none {i} k h =
-      let z : i ≡ 0 = omega arith in
-      record { most = omega arith; is = λ q. absurd (omega arith); not = λ q. k.others ∙ rw z }
+  above_none k = rw k.others
 
 -- where a word ends
 pub shut_end : (s : List ℕ) (p : ℕ) → length s ≤ p → true ≡ shuts (drop p s)
 unfolding shuts
 shut_end s p h = rw (drop_of_length-le s h)
 
-pub shut_at : (s : List ℕ) (p : ℕ) {b : Bool} → p < length s → b ≡ in_run true (class_of (get_or s p 0)) → not b ≡ shuts (drop p s)
+pub shut_at : (s : List ℕ) (p : ℕ) {b : Bool} → p < length s → b ≡ in_run tail.Letters (class_of (get_or s p 0)) → not b ≡ shuts (drop p s)
 unfolding shuts in_run
 shut_at s p h e = rw (at_byte s p h, e)
 
--- a name that is no `sent`, compared
-pub name_alike : {s : List ℕ} {t : Lexeme} {p : ℕ} {b : Bool} → Shape s t → t.kind ≡ 97 → p < length s
-    → b ≡ same (word_from (drop p s)) (part s t.at t.end) → b ≡ same (name_at s p) (word_of (token_at s t))
-name_alike {s} {t} {p} g e h q = q ∙ sym (ap (λ (x : Name). same x (word_of (token_at s t))) (name_word s p h) ∙
-    ap (same (word_from (drop p s))) (word_is s t e))
+-- a name compared: `sent`, and any other
+pub name_sent_same : (s : List ℕ) (t : Lexeme) (p : ℕ) {b : Bool} → length s ≤ p → b ≡ same (word_of (token_at s t)) sent
+    → b ≡ same (name_at s p) (word_of (token_at s t))
+name_sent_same s t p h e = rw (name_sent s p h) (e ∙ same_sym (word_of (token_at s t)) sent)
+
+pub name_alike : {s : List ℕ} {t : Lexeme} (p : ℕ) {a b : Bool} → Shape s t → t.kind ≡ kind.Word → p < length s
+    → a ≡ pointwise eqb (part s t.at t.end) (take (length (part s t.at t.end)) (take (length s - p) (drop p s)))
+    → b ≡ shuts (drop (p + length (part s t.at t.end)) s)
+    → a && b ≡ same (name_at s p) (word_of (token_at s t))
+name_alike {s} {t} p g e h k l =
+    let n = length (part s t.at t.end) in
+    let q : drop (p + n) s ≡ drop n (drop p s) = sym (drop-drop n p s) in
+    let r : take (length s - p) (drop p s) ≡ drop p s = ap (λ (i : ℕ). take i (drop p s)) (sym (length-drop p s)) ∙ take-length (drop p s) in
+    rw (k, l, r, word_is s t e, name_word s p h, q) (sym (starts_same (drop p s) (part s t.at t.end) (g.a_word e).1))

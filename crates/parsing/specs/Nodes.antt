@@ -1,7 +1,8 @@
 -- NODES IN SLOTS: node n has the eight bytes from 8 n on, and its record stands at their front.
 use Rattle.std.specs.Prelude.{◌≡◌, refl, List, [], ◌∷◌, ◌++◌, ℕ, zero, suc, ◌+◌, ◌*◌, ◌-◌, ◌≤◌, ◌<◌, length, get_or, take, drop, set}
-use Rattle.std.proofs.Common.{sym, ap, ◌∙◌, append_assoc, append-nil, arith, add-one, take-suc, take_all, get_or-take, get_or-drop, take_at, drop_at}
-use Rattle.std.proofs.Common.{drop-set-lt, take-take, length-take-le}
+use Rattle.std.proofs.Common.{sym, ap, ◌∙◌, append_assoc, append-nil, arith, get_or-take, get_or-drop, take_at, drop_at}
+use Rattle.std.proofs.Common.{drop-set-lt, drop-drop, take-take, length-take-le}
+use borrow.Rule.Slice.PartMut.{put_mid}
 use Rattle.std.proofs.lemmas.List.Edits.{sets, sets-eq}
 use Rattle.std.proofs.Math.Seq.{take-nil, length-sets}
 use Rattle.report.specs.Writing.{Wrote, wrote_text, wrote_then}
@@ -104,27 +105,14 @@ sets_more : (v s : List ℕ) (i x : ℕ) → sets s i (v ++ x ∷ []) ≡ set (s
 sets_more [] s i x = let e : i + 0 ≡ i = omega arith in rw e
 sets_more (y ∷ v) s i x = let e : i + suc (length v) ≡ suc i + length v = omega arith in rw e (sets_more v (set s i y) (suc i) x)
 
-pub record Storing (s : List ℕ) (n : ℕ) (row : List ℕ) (i : ℕ) (s' : List ℕ) : Type 0 where
-  pub few : i ≤ 8
-  pub so_far : s' ≡ sets s (8 * n) (take i row)
-
-pub storing_none : (s : List ℕ) (n : ℕ) (row : List ℕ) → Storing s n row 0 s
-storing_none s n row = record { few = omega arith; so_far = refl }
-
-pub storing_long : {s : List ℕ} {n : ℕ} {row : List ℕ} {i : ℕ} {s' : List ℕ} → Storing s n row i s' → length s' ≡ length s
-storing_long {s} {n} {row} {i} k = ap length k.so_far ∙ length-sets s (8 * n) (take i row)
-
-pub storing_more : {s : List ℕ} {n : ℕ} {row : List ℕ} {i : ℕ} {s' : List ℕ} → length row ≡ 8 → Storing s n row i s' → i < 8
-    → Storing s n row (i + 1) (set s' (8 * n + i) (get_or row i 0))
-storing_more {s} {n} {row} {i} {s'} l k h =
-    let e : length (take i row) ≡ i = length-take-le i row (omega arith) in
-    record {
-      few = omega arith;
-      so_far = rw (add-one, take-suc row i 0 (omega arith), sets_more (take i row) s (8 * n) (get_or row i 0), e, k.so_far);
-    }
-
-pub storing_all : {s : List ℕ} {n : ℕ} {row : List ℕ} {i : ℕ} {s' : List ℕ} → length row ≡ 8 → Storing s n row i s' → 8 ≤ i → s' ≡ sets s (8 * n) row
-storing_all {s} {n} {row} {i} l k h = k.so_far ∙ ap (sets s (8 * n)) (take_all i row (omega arith))
+-- a row that is copied over its slot
+pub copied : (s : List ℕ) (n : ℕ) {row row' : List ℕ} → length row ≡ 8 → 8 * n + 8 ≤ length s → row' ≡ row
+    → put_mid (8 * n) (8 * n + 8 - 8 * n) s row' ≡ sets s (8 * n) row
+copied s n {row} l h e =
+    let a = 8 * n in
+    let k = 8 * n + 8 - 8 * n in
+    let q : a + k ≡ a + length row = omega arith in
+    rw (e, drop-drop k a s, q) (sym (sets-eq row s a (omega arith) ∙ append_assoc (take a s) row (drop (a + length row) s)))
 
 -- WRITTEN OUT: the record at the front of a slot, by its kind
 unfoldable pub record_in : List ℕ → ℕ → List ℕ

@@ -3,6 +3,7 @@ use Rattle.std.specs.Prelude.{◌≡◌, Bool, true, false, ◌||◌, ℕ, zero,
 use Rattle.std.proofs.Math.Path.{refl, sym, ap}
 use Rattle.std.proofs.Common.{subst, ◌∙◌, zero-add, length-append, length-set, take-suc-set, get_or-set_same}
 use mathlib.Core.List.{List, [], ◌∷◌, ◌++◌, append_assoc, append-nil}
+use Rattle.std.proofs.Math.Option.{Option, none, some}
 use native.Mathlib.Omega.{arith}
 use Rattle.node.specs.declared.Node.{Node}
 use Rattle.sheet.specs.Sheet.{Sheet}
@@ -17,14 +18,15 @@ use Rattle.tokens.specs.Ahead.{here_first}
 use Rattle.lexing.specs.Lexing.{Between, ahead, token_at, Next}
 use Rattle.parsing.specs.Cursor.{fault_at, Told, on, off, fault_told, Behind, With, Fault, fault_same, Carries, carries_then, Goes, told_then}
 use Rattle.parsing.specs.Cursor as cursor
-use Rattle.parsing.specs.Names.{name_at, name_read, stack_of, stack-length, Found}
-use Rattle.parsing.specs.Expect.{marked, mark_is, mark_at, mark_own, mark_other, Binds, Named, resolve_by, scope_at, fault_here, over_it, name_kind}
+use Rattle.parsing.specs.Names.{name_at, name_read, stack_of, stack-length}
+use Rattle.parsing.specs.Expect.{marked, mark_is, mark_own, mark_other, Binds, Named, resolve_by, scope_at, fault_here, over_it, name_kind}
 use Rattle.parsing.specs.Nodes.{Slots, slots_append, Kept, kept_refl, kept_fewer, kept_then, slots_kept}
 use Rattle.parsing.specs.Nodes.{none as no_slots}
 use Rattle.parsing.specs.Expressions.{Stored, Below, goes_told}
 use Rattle.parsing.specs.Constructs.{Expr, Both, Two}
 use Rattle.parsing.specs.ConstructLaws.{told_two, two_at, below_refl, below_set, stack_one, stack_two, part_told}
 use Rattle.parsing.specs.declared.cursor.Cursor.{Cursor}
+use Rattle.lexing.specs.declared.Kind.TheVariants as kind
 use Rattle.lexing.specs.declared.Lexeme.{Lexeme}
 use Rattle.parsing.specs.declared.expect.Scope.{Scope as Names}
 
@@ -77,7 +79,7 @@ plan_full {s} names {i} e z w = record {
   told = λ _ b. let l : 16 - i ≡ 0 = omega arith in rw l (w.told b (stack_of s names 0 i) names);
 }
 
-first_mark : {s : List ℕ} {p : ℕ} {t : Lexeme} → Next s p t → {ts : List Token} → ts ≡ ahead s p → mark_of (first ts) ≡ mark_at t.kind
+first_mark : {s : List ℕ} {p : ℕ} {t : Lexeme} → Next s p t → {ts : List Token} → ts ≡ ahead s p → mark_of (first ts) ≡ marked t.kind
 first_mark {s} {t = t} n e = rw (e, n.token) (mark_is s t)
 
 -- a name, and then
@@ -98,21 +100,21 @@ module _ {s names names₁ : List ℕ} {i : ℕ} {c b : Cursor} (few : i < 16) (
   }
 
   module _ (y : b.code ≡ 0) {t : Lexeme} (n : Next s b.at t) where
-    pub plan_last : (t.kind ≡ 44 → ⊥) → Planned s names i c names₁ (cursor.behind b b.at (i + 1) 0)
+    pub plan_last : (t.kind ≡ kind.Mark 44 → ⊥) → Planned s names i c names₁ (cursor.behind b b.at (i + 1) 0)
     unfolding plan marked
     plan_last h = record {
       same_count = w.same;
       carries = λ q. absurd (q z);
       long = w.long;
       told = λ _ h'. rw next_is (told_then _ (w.told z h') (λ q. absurd (q y)) (λ (v, ts) _ u.
-          rw (first_mark n u.stands.tokens, mark_other t.kind 44 h)
+          rw (first_mark n u.stands.tokens, mark_other t.kind (kind.Mark 44) refl h)
           (on {x = (v ∷ stack_of s names 0 i, ts)} {r = cursor.behind b b.at (i + 1) 0} refl (record {
             stands = record { here = u.stands.here; tokens = u.stands.tokens };
             value = record { are = sym (stack_one s names names₁ 0 i bound_below (ap (name_at s) u.value.noted ∙ u.value.name)); few = omega arith };
           }))));
     }
 
-    pub plan_more : {names₂ : List ℕ} {d r : Cursor} → t.kind ≡ 44 → d ≡ cursor.behind b t.end 0 0 → Planned s names₁ (i + 1) d names₂ r
+    pub plan_more : {names₂ : List ℕ} {d r : Cursor} → t.kind ≡ kind.Mark 44 → d ≡ cursor.behind b t.end 0 0 → Planned s names₁ (i + 1) d names₂ r
         → Planned s names i c names₂ r
     unfolding plan marked
     plan_more {names₂} {d} {r} k e p =
@@ -126,7 +128,7 @@ module _ {s names names₁ : List ℕ} {i : ℕ} {c b : Cursor} (few : i < 16) (
           told = λ _ h'. rw next_is (told_then {Q = With s (Named s names₁ (0 + i))} _ (w.told z h') (λ q. absurd (q y)) (λ (v, ts) _ u.
               let f = stack_one s names names₁ 0 i bound_below (ap (name_at s) u.value.noted ∙ u.value.name) in
               let g : rest ts ≡ ahead s d.at = rw (u.stands.tokens, l) n.behind in
-              rw (first_mark n u.stands.tokens, k, mark_own 44 refl, g, ← f) (p.told o (rw l (n.here u.stands.here)))));
+              rw (first_mark n u.stands.tokens, k, mark_own (kind.Mark 44) refl, g, ← f) (p.told o (rw l (n.here u.stands.here)))));
         }
 
 -- THE NAME OF A SECTION
@@ -146,6 +148,16 @@ pub record Titled (s fresh : List ℕ) (i : ℕ) (c : Cursor) (fresh' : List ℕ
 pub title_on : (s fresh : List ℕ) (i : ℕ) (c : Cursor) → (c.code ≡ 0 → ⊥) → Titled s fresh i c fresh c
 title_on s fresh i c h = record { same_count = refl; carries = λ q. fault_same c; below = below_refl (1 + i) fresh; told = λ z. absurd (h z) }
 
+met_some : (o : Option ℕ) (left : ℕ) → is_some o ≡ true → unknown o left ≡ fault 92 left 0 51
+unfolding unknown
+met_some none left e = cc
+met_some (some x) left e = refl
+
+met_none : (o : Option ℕ) (left : ℕ) → is_some o ≡ false → unknown o left ≡ ok tt
+unfolding unknown
+met_none none left e = refl
+met_none (some x) left e = cc
+
 module _ {s : List ℕ} (fresh : List ℕ) {i : ℕ} {c : Cursor} {t : Lexeme} (n : Next s c.at t) (z : c.code ≡ 0) where
   pub title_none : is_name (word_of (token_at s t)) ≡ false → Titled s fresh i c fresh (fault_at c 90 t.at 7)
   unfolding title_of section_name ◌>>=◌
@@ -156,24 +168,24 @@ module _ {s : List ℕ} (fresh : List ℕ) {i : ℕ} {c : Cursor} {t : Lexeme} (
     told = λ _ b. rw (n.token, e) (fault_here c n b (omega arith));
   }
 
-  pub title_taken : {x : ℕ} → is_name (word_of (token_at s t)) ≡ true → Found s fresh 1 i (word_of (token_at s t)) x → x < i
+  pub title_taken : is_name (word_of (token_at s t)) ≡ true → is_some (find (stack_of s fresh 1 i) (word_of (token_at s t))) ≡ true
       → Titled s fresh i c fresh (fault_at c 92 t.at 51)
   unfolding title_of section_name unknown ◌>>=◌
-  title_taken e g h = record {
+  title_taken e g = record {
     same_count = refl;
     carries = λ q. absurd (q z);
     below = below_refl (1 + i) fresh;
-    told = λ _ b. rw (n.token, e, g.is h) (fault_here c n b (omega arith));
+    told = λ _ b. rw (n.token, e, met_some (find (stack_of s fresh 1 i) (word_of (token_at s t))) (length (ahead s c.at)) g) (fault_here c n b (omega arith));
   }
 
-  pub title_new : {x : ℕ} → is_name (word_of (token_at s t)) ≡ true → Found s fresh 1 i (word_of (token_at s t)) x → i ≤ x → 1 + i < length fresh
+  pub title_new : is_name (word_of (token_at s t)) ≡ true → is_some (find (stack_of s fresh 1 i) (word_of (token_at s t))) ≡ false → 1 + i < length fresh
       → Titled s fresh i c (set fresh (1 + i) t.at) (cursor.behind c t.end 0 0)
   unfolding title_of section_name unknown ◌>>=◌
-  title_new {x} e g h l = record {
+  title_new e g l = record {
     same_count = refl;
     carries = λ q. absurd (q z);
     below = below_set (1 + i) fresh (1 + i) t.at (omega arith);
-    told = λ _ b. let m = g.most in let y : x ≡ i = omega arith in rw (n.token, e, g.not y)
+    told = λ _ b. rw (n.token, e, met_none (find (stack_of s fresh 1 i) (word_of (token_at s t))) (length (ahead s c.at)) g)
         (on {x = (word_of (token_at s t), rest (ahead s c.at))} {r = cursor.behind c t.end 0 0} refl (record {
           stands = over_it c n 0 0 b;
           value = record { name = ap (name_at s) (get_or-set_same fresh (1 + i) t.at 0 l) ∙ name_read n.shape (name_kind s t e) };
@@ -235,8 +247,9 @@ unfolding scope_at stack_of
 both_seen s names names' b u = ap (λ (ns : List Name). scope ns 40) (sym (stack_two s names names' 0 0 b u.first_is u.second_is))
 
 pub section_parsed : {s table names slots fresh : List ℕ} {i : ℕ} {c : Cursor} {fresh₁ names₁ names₂ slots₂ : List ℕ} {a o b p q r : Cursor}
-    → Lent (length table) (length names) (length slots) c → Titled s fresh i c fresh₁ a → Goes s (Behind s) (symbol (marked 40) 8) a o
-    → Two s names (sees 0) (marked 44) 9 o names₁ b → Goes s (Behind s) (symbol (marked 41) 10) b p → Goes s (Behind s) (symbol (marked 61) 4) p q
+    → Lent (length table) (length names) (length slots) c → Titled s fresh i c fresh₁ a → Goes s (Behind s) (symbol (marked (kind.Mark 40)) 8) a o
+    → Two s names (sees 0) (marked (kind.Mark 44)) 9 o names₁ b → Goes s (Behind s) (symbol (marked (kind.Mark 41)) 10) b p
+    → Goes s (Behind s) (symbol (marked (kind.Mark 61)) 4) p q
     → Expr s table names₁ slots (sees 2) q names₂ slots₂ r → Sectioned s table names slots fresh i c names₂ slots₂ fresh₁ r
 unfolding section marked stack_of
 section_parsed {s} {table} {names} {slots} {fresh} {i} {c} {fresh₁} {names₁} {names₂} {slots₂} {a} {o} {b} {p} {q} {r} l ta go tb gp gq e = record {
@@ -310,7 +323,7 @@ module _ {s table slots front fresh : List ℕ} {i : ℕ} {c : Cursor} (few : c.
   sections_on h = sections_stay refl (λ q. fault_same c) (λ z. absurd (h z))
 
   module _ {t : Lexeme} (n : Next s c.at t) (z : c.code ≡ 0) where
-    pub sections_end : i ≤ 8 → t.kind ≡ 90 → Sections s table slots front fresh i c slots front fresh (cursor.behind c c.at i 0)
+    pub sections_end : i ≤ 8 → t.kind ≡ kind.End → Sections s table slots front fresh i c slots front fresh (cursor.behind c c.at i 0)
     sections_end h k = sections_stay refl (λ q. absurd (q z)) (λ _ b. rw (n.ended k) (all_read (8 - i)))
       where
         all_read : (l : ℕ) → Told s (Closing s slots front front fresh i c.count) (sections (resolve_by s table) l (stack_of s fresh 1 i) c.count [])
@@ -329,7 +342,7 @@ module _ {s table slots front fresh : List ℕ} {i : ℕ} {c : Cursor} (few : c.
             none_left zero = unfold sections in refl
             none_left (suc l) = unfold sections in refl
 
-    pub sections_none : (t.kind ≡ 90 → ⊥) → same (word_of (token_at s t)) (bytes "section") ≡ false
+    pub sections_none : (t.kind ≡ kind.End → ⊥) → same (word_of (token_at s t)) (bytes "section") ≡ false
         → Sections s table slots front fresh i c slots front fresh (fault_at c 90 t.at 6)
     sections_none k e = sections_stay refl (λ q. absurd (q z)) (λ _ b. rw (not_one (8 - i)) (fault_here c n b (omega arith)))
       where
@@ -337,7 +350,7 @@ module _ {s table slots front fresh : List ℕ} {i : ℕ} {c : Cursor} (few : c.
         not_one zero = unfold sections in rw (n.some k, e)
         not_one (suc l) = unfold sections keyword first ◌>>=◌ in rw (n.some k, e)
 
-    pub sections_full : i ≡ 8 → (t.kind ≡ 90 → ⊥) → same (word_of (token_at s t)) (bytes "section") ≡ true
+    pub sections_full : i ≡ 8 → (t.kind ≡ kind.End → ⊥) → same (word_of (token_at s t)) (bytes "section") ≡ true
         → Sections s table slots front fresh i c slots front fresh (fault_at c 94 t.at 71)
     sections_full h k e = sections_stay refl (λ q. absurd (q z)) (λ _ b. rw (ninth (8 - i) (omega arith)) (fault_here c n b (omega arith)))
       where
@@ -359,7 +372,7 @@ front_noted a {b} i v e h =
 
 pub sections_more : {s table names slots front fresh : List ℕ} {i : ℕ} {c : Cursor} {t : Lexeme} {front₁ names₁ slots₁ fresh₁ slots₂ front₂ fresh₂ : List ℕ}
     {d a r : Cursor}
-    → Next s c.at t → c.code ≡ 0 → i < 8 → length front ≡ 19 → (t.kind ≡ 90 → ⊥) → same (word_of (token_at s t)) (bytes "section") ≡ true
+    → Next s c.at t → c.code ≡ 0 → i < 8 → length front ≡ 19 → (t.kind ≡ kind.End → ⊥) → same (word_of (token_at s t)) (bytes "section") ≡ true
     → d ≡ cursor.behind c t.end 0 0 → front₁ ≡ set (set front (3 + 2 * i) 32) (4 + 2 * i) c.count
     → Sectioned s table names slots fresh i d names₁ slots₁ fresh₁ a → Sections s table slots₁ front₁ fresh₁ (i + 1) a slots₂ front₂ fresh₂ r
     → Sections s table slots front fresh i c slots₂ front₂ fresh₂ r
@@ -442,7 +455,7 @@ pub pass_parsed : {s table names slots : List ℕ} (front : List ℕ) {fresh : L
     → Goes s (Behind s) (keyword (bytes "plan") 1) (cursor.behind (record { at = 0; count = 0; found = 0; code = 0; detail = 0 }) 0 0 0) m
     → Planned s names 0 m names₁ k → k.code ≡ 0
     → length front ≡ 19 → front₂ ≡ set (set (set front 0 1) 1 k.found) 2 0 → Goes s (Behind s) (keyword (bytes "list") 3) k l
-    → Goes s (Behind s) (symbol (marked 61) 4) l q → Expr s table names₁ slots (record { base = 0; many = k.found; lost = 40 }) q names₂ slots₂ a
+    → Goes s (Behind s) (symbol (marked (kind.Mark 61)) 4) l q → Expr s table names₁ slots (record { base = 0; many = k.found; lost = 40 }) q names₂ slots₂ a
     → Sections s table slots₂ front₂ fresh 0 a slots₃ front₃ fresh₃ r → Passed s table slots₃ front₃ fresh₃ r
 unfolding text_of_tokens marked stack_of
 pass_parsed {s} {table} {names} {slots} front {fresh} {m} {k} {l} {q} {a} {r} {names₁} {names₂} {slots₂} {front₂} {slots₃} {front₃} {fresh₃} gm p y long st

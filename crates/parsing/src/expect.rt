@@ -6,13 +6,15 @@ ghost use Rattle.syntax.specs.Reader as reader;
 ghost use Rattle.syntax.specs.Reader.{zero_first};
 ghost use Rattle.tokens.specs.Tokens.{word_of};
 ghost use Rattle.lexing.specs.Lexing.{Shape, token_at, part};
+ghost use Rattle.lexing.specs.declared.Kind.TheVariants.{Word, Hash};
+ghost use Rattle.parsing.specs.Names.{found};
 ghost use Rattle.parsing.specs.Cursor.{Behind, With, Goes};
-ghost use Rattle.parsing.specs.Expect.{is_symbol, marked, Again, Binds, Digits, Numbers, ByNumber, IsVariable, IsTest, number_or};
+ghost use Rattle.parsing.specs.Expect.{is_symbol, marked, Again, Binds, Digits, Numbers, ByNumber, IsVariable, IsTest};
 ghost use Rattle.parsing.specs.Expect.{resolve_by, callee_of, Resolves, IsCallee, scope_at};
 
 use crate::cursor::{Cursor, fault, read};
-use crate::names::{is_name, is_same, is_word, lookup};
-use lexing::{HASH, Lexeme, WORD, class, next};
+use crate::names::{is_name, is_same, is_word, lookup, word};
+use lexing::{Class, Kind, Lexeme, next};
 
 /// The names in scope, `many` of them from `base` on; and the detail for a name that is none of them.
 #[derive(Clone, Copy, Debug, PartialEq, Eq)]
@@ -23,7 +25,7 @@ pub struct Scope {
 }
 
 /// This mark.
-pub fn symbol(text: &[u8], c: Cursor, mark: u8, detail: u8) -> Cursor
+pub fn symbol(text: &[u8], c: Cursor, mark: Kind, detail: u8) -> Cursor
     requires { is_symbol mark ≡ true }
     ensures { Goes text.now (Behind text.now) (reader.symbol (marked mark) detail) c result }
 {
@@ -31,7 +33,7 @@ pub fn symbol(text: &[u8], c: Cursor, mark: u8, detail: u8) -> Cursor
         return c;
     }
     let t = next(text, c.at);
-    if t.kind != mark {
+    if !t.is(mark) {
         return fault(c, 90, t.at, detail);
     }
     read(c, t.end, 0, 0)
@@ -60,7 +62,7 @@ pub fn again(text: &[u8], c: Cursor, place: usize, detail: u8) -> Cursor
         return c;
     }
     let t = next(text, c.at);
-    if t.kind != WORD {
+    if !t.is(Kind::Word) {
         return fault(c, 90, t.at, detail);
     }
     if !is_same(text, place, t) {
@@ -85,7 +87,7 @@ pub fn bind(text: &[u8], names: &mut [usize], sc: Scope, c: Cursor) -> Cursor
     if !is_name(text, t) {
         return fault(c, 90, t.at, 2);
     }
-    if lookup(text, names, sc.base, sc.many, t) < sc.many {
+    if lookup(text, names, sc.base, sc.many, t).is_some() {
         return fault(c, 92, t.at, 50);
     }
     names[sc.base + sc.many] = t.at;
@@ -93,13 +95,14 @@ pub fn bind(text: &[u8], names: &mut [usize], sc: Scope, c: Cursor) -> Cursor
 }
 
 // Whether a letter stands at a place.
+#[tactic(auto, using(crate::specs::Expect::letter_none))]
 fn letter_at(text: &[u8], at: usize) -> bool
     ensures { result ≡ letter_first (drop at text.now) }
 {
     if text.len() <= at {
         return false;
     }
-    class(text[at]) == 1
+    matches!(Class::of(text[at]), Class::Letter)
 }
 
 // Whether a 0 stands in front of other digits.
@@ -122,14 +125,13 @@ pub fn number(text: &[u8], from: usize, end: usize, most: usize, detail: u8, c: 
         return fault(c, 93, from + 1, 61);
     }
     let mut v = 0;
-    let mut i = from;
-    while i < end {
-        let w = 10 * v + (text[i] - b'0') as usize;
+    for i in from..end {
+        let digit = text[i] - b'0';
+        let w = 10 * v + usize::from(digit);
         if most < w {
             return fault(c, 93, i, detail);
         }
         v = w;
-        i += 1;
     }
     if letter_at(text, end) {
         return fault(c, 93, end, 62);
@@ -139,7 +141,7 @@ pub fn number(text: &[u8], from: usize, end: usize, most: usize, detail: u8, c: 
 
 // The variable whose number stands behind `#`.
 fn by_number(text: &[u8], t: Lexeme, c: Cursor) -> Cursor
-    requires { Shape text.now t × (t.kind ≡ 35) }
+    requires { Shape text.now t × (t.kind ≡ Hash) }
     ensures { ByNumber text.now t c result }
 {
     if t.end - t.at < 2 {
@@ -158,32 +160,30 @@ pub fn variable(text: &[u8], names: &[usize], sc: Scope, c: Cursor) -> Cursor
         return c;
     }
     let t = next(text, c.at);
-    if t.kind == HASH {
+    if t.is(Kind::Hash) {
         return by_number(text, t, c);
     }
     if !is_name(text, t) {
         return fault(c, 90, t.at, 11);
     }
-    let x = lookup(text, names, sc.base, sc.many, t);
-    if x == sc.many {
-        return fault(c, 91, t.at, sc.lost);
+    match lookup(text, names, sc.base, sc.many, t) {
+        Some(x) => read(c, t.end, x, 0),
+        None => fault(c, 91, t.at, sc.lost),
     }
-    read(c, t.end, x, 0)
 }
 
 /// The number of the section that a name means: by the table of names, whose first entry is none; with no table 0.
 pub fn resolved(text: &[u8], table: &[usize], t: Lexeme, c: Cursor) -> Cursor
-    requires { Shape text.now t × (t.kind ≡ 97) × (length table.now ≤ 9) }
+    requires { Shape text.now t × (t.kind ≡ Word) × (length table.now ≤ 9) }
     ensures { Resolves text.now table.now t c result }
 {
     if table.len() == 0 {
         return read(c, c.at, 0, 0);
     }
-    let x = lookup(text, table, 1, table.len() - 1, t);
-    if x == table.len() - 1 {
-        return fault(c, 91, t.at, 43);
+    match lookup(text, table, 1, table.len() - 1, t) {
+        Some(x) => read(c, c.at, x, 0),
+        None => fault(c, 91, t.at, 43),
     }
-    read(c, c.at, x, 0)
 }
 
 /// The name of a section, and its number.
@@ -201,33 +201,29 @@ pub fn callee(text: &[u8], table: &[usize], c: Cursor) -> Cursor
     resolved(text, table, t, read(c, t.end, 0, 0))
 }
 
-// The number of a test; 7 where the token is none.
-fn test_number(text: &[u8], t: Lexeme) -> usize
-    requires { Shape text.now t }
-    ensures { result ≡ number_or (reader.find reader.tests (word_of (token_at text.now t))) }
+// The number of the test that a word names.
+#[tactic(auto, unfolding(syntax::specs::Reader::find, tokens::specs::Tokens::same))]
+fn test_named(word: &[u8]) -> Option<usize>
+    ensures { result ≡ found (reader.find reader.tests word.now) }
 {
-    if is_word(text, t, b"many") {
-        return 6;
+    match word {
+        b"any" => Some(0),
+        b"empty" => Some(1),
+        b"members" => Some(2),
+        b"false" => Some(3),
+        b"true" => Some(4),
+        b"one" => Some(5),
+        b"many" => Some(6),
+        _ => None,
     }
-    if is_word(text, t, b"one") {
-        return 5;
-    }
-    if is_word(text, t, b"true") {
-        return 4;
-    }
-    if is_word(text, t, b"false") {
-        return 3;
-    }
-    if is_word(text, t, b"members") {
-        return 2;
-    }
-    if is_word(text, t, b"empty") {
-        return 1;
-    }
-    if is_word(text, t, b"any") {
-        return 0;
-    }
-    7
+}
+
+// The number of a test.
+fn test_number(text: &[u8], t: Lexeme) -> Option<usize>
+    requires { Shape text.now t }
+    ensures { result ≡ found (reader.find reader.tests (word_of (token_at text.now t))) }
+{
+    test_named(word(text, t))
 }
 
 /// A test, if `with` stands there; and the detail for what must follow, `bare` where there is none and `after` behind one.
@@ -242,9 +238,8 @@ pub fn test(text: &[u8], c: Cursor, bare: u8, after: u8) -> Cursor
         return read(c, c.at, 0, bare);
     }
     let u = next(text, t.end);
-    let n = test_number(text, u);
-    if n == 7 {
-        return fault(c, 90, u.at, 23);
+    match test_number(text, u) {
+        Some(n) => read(c, u.end, n, after),
+        None => fault(c, 90, u.at, 23),
     }
-    read(c, u.end, n, after)
 }

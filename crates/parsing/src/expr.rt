@@ -3,95 +3,82 @@
 //! all below it, when the numbers of its children are known.
 ghost use Rattle.std.specs.Prelude.{◌≡◌, true, [], ◌+◌, ◌*◌, ◌≤◌, ◌<◌, length};
 ghost use Rattle.std.proofs.lemmas.List.Edits.{sets};
-ghost use Rattle.syntax.specs.Reader.{begin_of};
+ghost use Rattle.syntax.specs.Reader.{begin_of, word_begin};
 ghost use Rattle.lexing.specs.Lexing.{Shape, token_at};
+ghost use Rattle.lexing.specs.declared.Kind.TheVariants.{Word};
+ghost use Rattle.parsing.specs.declared.expr.Begin.TheVariants.{Name, Number};
 ghost use Rattle.parsing.specs.Cursor.{entered};
 ghost use Rattle.parsing.specs.Nodes.{Kept};
 ghost use Rattle.parsing.specs.Expect.{is_symbol, marked};
-ghost use Rattle.parsing.specs.Expressions.{begin_code, row_of, Constant, Leafy, Var, Call};
-ghost use Rattle.parsing.specs.Constructs.{Ready, Inner, Begun, Childless, Cased, Two, Expr, Shaped, Pair, Listed, Front, Back, Let, Each, Case};
+ghost use Rattle.parsing.specs.Expressions.{begin_named, key_named, row_of, Constant, Leafy, Var, Call};
+ghost use Rattle.parsing.specs.Constructs.{Ready, Inner, Begun, Cased, Two, Expr, Shaped, Pair, Listed, Front, Back, Let, Each, Case};
 ghost use Rattle.parsing.specs.Constructs.{with_two, Branches, Branch, Default, Truth, Lists};
 
 use crate::cursor::{Cursor, enter, fault, read};
 use crate::expect::{
     Scope, again, bind, callee, keyword, number, resolved, symbol, test, variable,
 };
-use crate::names::{is_name, is_word};
+use crate::names::{is_free, is_word, word};
 use crate::nodes::store;
-use lexing::{ARROW, DIGITS, HASH, Lexeme, WORD, next};
+use lexing::{Kind, Lexeme, next};
 
 const MOST: usize = 4_294_967_295;
 
-// What an expression begins with, as a number.
-const NOTHING: u8 = 0;
+/// What an expression begins with.
+#[derive(Clone, Copy, Debug, PartialEq, Eq)]
+enum Begin {
+    False,
+    True,
+    Let,
+    Case,
+    Each,
+    Pair,
+    List,
+    Name,
+    Hash,
+    Number,
+}
 
-const FALSE: u8 = 1;
-
-const TRUE: u8 = 2;
-
-const LET: u8 = 3;
-
-const CASE: u8 = 4;
-
-const EACH: u8 = 5;
-
-const PAIR: u8 = 6;
-
-const LIST: u8 = 7;
-
-const NAME: u8 = 8;
-
-const HASHED: u8 = 9;
-
-const NUMBER: u8 = 10;
+// What an expression begins with that begins with this word of the language.
+#[tactic(auto, unfolding(tokens::specs::Tokens::same))]
+fn key_begins(word: &[u8]) -> Option<Begin>
+    ensures { result ≡ key_named word.now }
+{
+    match word {
+        b"false" => Some(Begin::False),
+        b"true" => Some(Begin::True),
+        b"let" => Some(Begin::Let),
+        b"case" => Some(Begin::Case),
+        b"each" => Some(Begin::Each),
+        _ => None,
+    }
+}
 
 // What an expression begins with that begins with this word.
-fn word_begins(text: &[u8], t: Lexeme) -> u8
-    requires { Shape text.now t × (t.kind ≡ 97) }
-    ensures { result ≡ begin_code (begin_of (token_at text.now t)) }
+#[tactic(auto, using(crate::specs::Expressions::begin_name, crate::specs::Expressions::begin_key))]
+fn word_begins(word: &[u8]) -> Option<Begin>
+    ensures { result ≡ begin_named (word_begin word.now) }
 {
-    if is_name(text, t) {
-        return NAME;
+    if is_free(word) {
+        return Some(Begin::Name);
     }
-    if is_word(text, t, b"false") {
-        return FALSE;
-    }
-    if is_word(text, t, b"true") {
-        return TRUE;
-    }
-    if is_word(text, t, b"let") {
-        return LET;
-    }
-    if is_word(text, t, b"case") {
-        return CASE;
-    }
-    if is_word(text, t, b"each") {
-        return EACH;
-    }
-    NOTHING
+    key_begins(word)
 }
 
 // What an expression begins with that begins with this token.
-fn begins(text: &[u8], t: Lexeme) -> u8
+#[tactic(auto, using(crate::specs::Expressions::begin_tokens))]
+fn begins(text: &[u8], t: Lexeme) -> Option<Begin>
     requires { Shape text.now t }
-    ensures { result ≡ begin_code (begin_of (token_at text.now t)) }
+    ensures { result ≡ begin_named (begin_of (token_at text.now t)) }
 {
-    if t.kind == WORD {
-        return word_begins(text, t);
+    match t.kind {
+        Kind::Word => word_begins(word(text, t)),
+        Kind::Digits => Some(Begin::Number),
+        Kind::Hash => Some(Begin::Hash),
+        Kind::Mark(b'(') => Some(Begin::Pair),
+        Kind::Mark(b'[') => Some(Begin::List),
+        _ => None,
     }
-    if t.kind == DIGITS {
-        return NUMBER;
-    }
-    if t.kind == HASH {
-        return HASHED;
-    }
-    if t.kind == b'(' {
-        return PAIR;
-    }
-    if t.kind == b'[' {
-        return LIST;
-    }
-    NOTHING
 }
 
 // A node without fields.
@@ -148,14 +135,14 @@ fn call(
     t: Lexeme,
     c: Cursor,
 ) -> Cursor
-    requires { Leafy (length names.now) (length slots.old) sc c × Shape text.now t × (t.kind ≡ 97) × (length table.now ≤ 9) }
+    requires { Leafy (length names.now) (length slots.old) sc c × Shape text.now t × (t.kind ≡ Word) × (length table.now ≤ 9) }
     ensures { Call text.now table.now names.now slots.old sc t c slots.new result }
 {
     let w = resolved(text, table, t, c);
     let x = variable(text, names, sc, w);
-    let comma = symbol(text, x, b',', 9);
+    let comma = symbol(text, x, Kind::Mark(b','), 9);
     let y = variable(text, names, sc, comma);
-    let end = symbol(text, y, b')', 10);
+    let end = symbol(text, y, Kind::Mark(b')'), 10);
     store(
         slots,
         c.count,
@@ -174,7 +161,7 @@ fn call(
 }
 
 /// Two new names with a mark between them, noted behind those in scope.
-pub fn two(text: &[u8], names: &mut [usize], sc: Scope, c: Cursor, mark: u8, detail: u8) -> Cursor
+pub fn two(text: &[u8], names: &mut [usize], sc: Scope, c: Cursor, mark: Kind, detail: u8) -> Cursor
     requires { (sc.base + sc.many + 1 < length names.old) × (is_symbol mark ≡ true) }
     ensures { Two text.now names.old sc (marked mark) detail c names.new result }
 {
@@ -205,10 +192,9 @@ pub fn expr(
         return c;
     }
     let t = next(text, c.at);
-    let b = begins(text, t);
-    if b == NOTHING {
+    let Some(b) = begins(text, t) else {
         return fault(c, 90, t.at, 5);
-    }
+    };
     if c.count == 200 {
         return fault(c, 94, t.at, 72);
     }
@@ -224,33 +210,26 @@ fn shaped(
     slots: &mut [u8],
     sc: Scope,
     t: Lexeme,
-    b: u8,
+    b: Begin,
     c: Cursor,
 ) -> Cursor
-    requires { Inner (length table.now) (length names.old) (length slots.old) (sc.base + sc.many) c × Begun text.now t b c × (b ≡ 0 → ⊥) }
+    requires { Inner (length table.now) (length names.old) (length slots.old) (sc.base + sc.many) c × Begun text.now t b c }
     ensures { Shaped text.now table.now names.old slots.old sc c names.new
         slots.new result }
 {
     let behind = read(c, t.end, 0, 0);
-    if b == LET {
-        return let_in(text, table, names, slots, sc, behind);
+    match b {
+        Begin::Let => let_in(text, table, names, slots, sc, behind),
+        Begin::Case => case_of(text, table, names, slots, sc, behind),
+        Begin::Each => each_of(text, table, names, slots, sc, behind),
+        Begin::Pair => pair(text, table, names, slots, sc, behind),
+        Begin::List => list(text, table, names, slots, sc, behind),
+        Begin::Number => amount(text, table, names, slots, sc, t, c),
+        Begin::False => bare(slots, behind, 0x11),
+        Begin::True => bare(slots, behind, 0x12),
+        Begin::Hash => var(text, names, slots, sc, c),
+        Begin::Name => name(text, table, names, slots, sc, t, c),
     }
-    if b == CASE {
-        return case_of(text, table, names, slots, sc, behind);
-    }
-    if b == EACH {
-        return each_of(text, table, names, slots, sc, behind);
-    }
-    if b == PAIR {
-        return pair(text, table, names, slots, sc, behind);
-    }
-    if b == LIST {
-        return list(text, table, names, slots, sc, behind);
-    }
-    if b == NUMBER {
-        return amount(text, table, names, slots, sc, t, c);
-    }
-    leaf(text, table, names, slots, sc, t, b, c)
 }
 
 // A pair, behind its bracket.
@@ -267,9 +246,9 @@ fn pair(
     ensures { Pair text.now table.now names.old slots.old sc c names.new slots.new result }
 {
     let a = expr(text, table, names, slots, sc, enter(c));
-    let comma = symbol(text, a, b',', 9);
+    let comma = symbol(text, a, Kind::Mark(b','), 9);
     let b = expr(text, table, names, slots, sc, comma);
-    let end = symbol(text, b, b')', 10);
+    let end = symbol(text, b, Kind::Mark(b')'), 10);
     let first = (c.count + 1) as u8;
     let second = comma.count as u8;
     store(slots, c.count, [0x16, first, second, 0, 0, 0, 0, 0]);
@@ -291,7 +270,7 @@ fn list(
         slots.new result }
 {
     let t = next(text, c.at);
-    if t.kind == b']' {
+    if t.is(Kind::Mark(b']')) {
         return bare(slots, read(c, t.end, 0, 0), 0x13);
     }
     front(text, table, names, slots, sc, c)
@@ -335,17 +314,17 @@ fn back(
         return c;
     }
     let t = next(text, c.at);
-    if t.kind == b'|' {
+    if t.is(Kind::Mark(b'|')) {
         let b = expr(text, table, names, slots, sc, read(c, t.end, 0, 0));
-        return symbol(text, b, b']', 14);
+        return symbol(text, b, Kind::Mark(b']'), 14);
     }
-    if t.kind == b',' {
+    if t.is(Kind::Mark(b',')) {
         if c.count == 200 {
             return fault(c, 94, t.at, 72);
         }
         return front(text, table, names, slots, sc, read(c, t.end, 0, 0));
     }
-    if t.kind != b']' {
+    if !t.is(Kind::Mark(b']')) {
         return fault(c, 90, t.at, 13);
     }
     if c.count == 200 {
@@ -380,12 +359,12 @@ fn let_in(
     ensures { Let text.now table.now names.old slots.old sc c names.new slots.new result }
 {
     let top = sc.base + sc.many;
-    let open = symbol(text, enter(c), b'(', 8);
-    let bound = two(text, names, sc, open, b',', 9);
+    let open = symbol(text, enter(c), Kind::Mark(b'('), 8);
+    let bound = two(text, names, sc, open, Kind::Mark(b','), 9);
     let x = names[top];
     let y = names[top + 1];
-    let close = symbol(text, bound, b')', 10);
-    let equals = symbol(text, close, b'=', 4);
+    let close = symbol(text, bound, Kind::Mark(b')'), 10);
+    let equals = symbol(text, close, Kind::Mark(b'='), 4);
     let a = expr(text, table, names, slots, sc, equals);
     let within = keyword(text, a, b"in", 15);
     names[top] = x;
@@ -408,7 +387,7 @@ fn amount(
     t: Lexeme,
     c: Cursor,
 ) -> Cursor
-    requires { Inner (length table.now) (length names.old) (length slots.old) (sc.base + sc.many) c × Begun text.now t 10 c }
+    requires { Inner (length table.now) (length names.old) (length slots.old) (sc.base + sc.many) c × Begun text.now t Number c }
     ensures { Shaped text.now table.now names.old slots.old sc c names.new
         slots.new result }
 {
@@ -417,7 +396,7 @@ fn amount(
         return v;
     }
     let plus = next(text, t.end);
-    if plus.kind != b'+' {
+    if !plus.is(Kind::Mark(b'+')) {
         return constant(slots, v);
     }
     if 65535 < v.found {
@@ -432,32 +411,22 @@ fn amount(
     a
 }
 
-// A node without children: t is its token.
-fn leaf(
+// A name, of a variable or of a section that is called: t is its token.
+fn name(
     text: &[u8],
     table: &[usize],
     names: &mut [usize],
     slots: &mut [u8],
     sc: Scope,
     t: Lexeme,
-    b: u8,
     c: Cursor,
 ) -> Cursor
-    requires { Inner (length table.now) (length names.old) (length slots.old) (sc.base + sc.many) c × Begun text.now t b c × Childless b }
+    requires { Inner (length table.now) (length names.old) (length slots.old) (sc.base + sc.many) c × Begun text.now t Name c }
     ensures { Shaped text.now table.now names.old slots.old sc c names.new
         slots.new result }
 {
-    if b == FALSE {
-        return bare(slots, read(c, t.end, 0, 0), 0x11);
-    }
-    if b == TRUE {
-        return bare(slots, read(c, t.end, 0, 0), 0x12);
-    }
-    if b == HASHED {
-        return var(text, names, slots, sc, c);
-    }
     let u = next(text, t.end);
-    if u.kind != b'(' {
+    if !u.is(Kind::Mark(b'(')) {
         return var(text, names, slots, sc, c);
     }
     call(text, table, names, slots, sc, t, read(c, u.end, 0, 0))
@@ -477,11 +446,11 @@ fn each_of(
     ensures { Each text.now table.now names.old slots.old sc c names.new slots.new result }
 {
     let called = callee(text, table, enter(c));
-    let open = symbol(text, called, b'(', 8);
+    let open = symbol(text, called, Kind::Mark(b'('), 8);
     let a = expr(text, table, names, slots, sc, open);
-    let comma = symbol(text, a, b',', 9);
+    let comma = symbol(text, a, Kind::Mark(b','), 9);
     let x = variable(text, names, sc, comma);
-    let close = symbol(text, x, b')', 10);
+    let close = symbol(text, x, Kind::Mark(b')'), 10);
     let word = keyword(text, close, b"default", 25);
     let none = Scope {
         base: sc.base + sc.many,
@@ -541,7 +510,7 @@ fn branches(
     if is_word(text, t, b"false") {
         return truth_case(text, table, names, slots, sc, n, read(c, t.end, 0, 0));
     }
-    if t.kind != b'[' {
+    if !t.is(Kind::Mark(b'[')) {
         return fault(c, 90, t.at, 17);
     }
     list_case(text, table, names, slots, sc, n, read(c, t.end, 0, 0))
@@ -561,7 +530,7 @@ fn branch(
     ensures { Branch text.now table.now names.old slots.old sc c names.new
         slots.new result }
 {
-    let arrow = symbol(text, c, ARROW, 19);
+    let arrow = symbol(text, c, Kind::Arrow, 19);
     expr(text, table, names, slots, sc, arrow)
 }
 
@@ -579,7 +548,7 @@ fn default(
     ensures { Default text.now table.now names.old slots.old top c names.new
         slots.new result }
 {
-    let equals = symbol(text, c, b'=', 4);
+    let equals = symbol(text, c, Kind::Mark(b'='), 4);
     names[top] = text.len();
     let sent = Scope {
         base: top,
@@ -639,20 +608,20 @@ fn list_case(
         slots.new result }
 {
     let top = sc.base + sc.many;
-    let none = symbol(text, c, b']', 18);
+    let none = symbol(text, c, Kind::Mark(b']'), 18);
     let a = branch(text, table, names, slots, sc, none);
     let t = test(text, a, 20, 21);
-    let open = symbol(text, t, b'[', t.detail);
-    let bound = two(text, names, sc, open, b'|', 22);
+    let open = symbol(text, t, Kind::Mark(b'['), t.detail);
+    let bound = two(text, names, sc, open, Kind::Mark(b'|'), 22);
     let x = names[top];
     let y = names[top + 1];
-    let close = symbol(text, bound, b']', 14);
+    let close = symbol(text, bound, Kind::Mark(b']'), 14);
     let b = branch(text, table, names, slots, wider(sc), close);
     let u = test(text, b, 24, 25);
     let word = keyword(text, u, b"default", u.detail);
     let member = again(text, word, x, 26);
     let d = default(text, table, names, slots, top, member);
-    let comma = symbol(text, d, b',', 9);
+    let comma = symbol(text, d, Kind::Mark(b','), 9);
     let rest = again(text, comma, y, 27);
     let e = default(text, table, names, slots, top, rest);
     let end = keyword(text, e, b"end", 31);

@@ -3,59 +3,45 @@
 ghost use Rattle.std.specs.Prelude.{◌≡◌, ◌+◌, ◌≤◌, ◌<◌, length, drop};
 ghost use Rattle.tokens.specs.Laid.{shuts};
 ghost use Rattle.tokens.specs.Tokens.{word_of, same};
-ghost use Rattle.syntax.specs.Reader.{is_name, is_some, find, words};
-ghost use Rattle.lexing.specs.Lexing.{token_at, Shape, part};
-ghost use Rattle.parsing.specs.Names.{name_at, Found};
+ghost use Rattle.syntax.specs.Reader.{is_name, find};
+ghost use Rattle.lexing.specs.Lexing.{token_at, Shape};
+ghost use Rattle.lexing.specs.declared.Kind.TheVariants.{Word};
+ghost use Rattle.parsing.specs.Names.{name_at, stack_of, found};
 
-use lexing::{Lexeme, WORD, goes_on};
+use lexing::{Kind, Lexeme, Tail, goes_on};
 
-// Whether a part of the text spells these bytes.
-fn spells(text: &[u8], at: usize, end: usize, w: &[u8]) -> bool
-    requires { (at ≤ end) × (end ≤ length text.now) }
-    ensures { result ≡ same (part text.now at end) w.now }
+/// The bytes of a word; none where a token is no word.
+#[tactic(auto, using(crate::specs::Names::word_is, crate::specs::Names::word_none))]
+pub fn word(text: &[u8], t: Lexeme) -> &[u8]
+    requires { Shape text.now t }
+    ensures { result.now ≡ word_of (token_at text.now t) }
 {
-    if end - at != w.len() {
-        return false;
+    match t.kind {
+        Kind::Word => &text[t.at..t.end],
+        _ => &text[..0],
     }
-    let mut i = 0;
-    while i < w.len() {
-        if text[at + i] != w[i] {
-            return false;
-        }
-        i += 1;
-    }
-    true
 }
 
 /// Whether a token is this word.
+#[tactic(auto, using(crate::specs::Names::same_bytes))]
 pub fn is_word(text: &[u8], t: Lexeme, w: &[u8]) -> bool
-    requires { Shape text.now t × (0 < length w.now) }
+    requires { Shape text.now t }
     ensures { result ≡ same (word_of (token_at text.now t)) w.now }
 {
-    if t.kind != WORD {
-        return false;
-    }
-    spells(text, t.at, t.end, w)
+    word(text, t) == w
 }
 
-// Whether a word of the language stands there.
-fn is_reserved(text: &[u8], t: Lexeme) -> bool
-    requires { Shape text.now t }
-    ensures { result ≡ is_some (find words (word_of (token_at text.now t))) }
+/// Whether a word is a name: any but `_` and the words of the language.
+#[tactic(auto, using(crate::specs::Names::long_names), unfolding(syntax::specs::Reader::is_name, syntax::specs::Reader::find, tokens::specs::Tokens::same))]
+pub fn is_free(word: &[u8]) -> bool
+    ensures { result ≡ is_name word.now }
 {
-    is_word(text, t, b"plan")
-        | is_word(text, t, b"list")
-        | is_word(text, t, b"section")
-        | is_word(text, t, b"case")
-        | is_word(text, t, b"of")
-        | is_word(text, t, b"with")
-        | is_word(text, t, b"default")
-        | is_word(text, t, b"end")
-        | is_word(text, t, b"let")
-        | is_word(text, t, b"in")
-        | is_word(text, t, b"each")
-        | is_word(text, t, b"true")
-        | is_word(text, t, b"false")
+    match word {
+        b"" | b"_" => false,
+        b"plan" | b"list" | b"section" | b"case" | b"of" | b"with" | b"default" => false,
+        b"end" | b"let" | b"in" | b"each" | b"true" | b"false" => false,
+        _ => true,
+    }
 }
 
 /// Whether a token is a name.
@@ -63,57 +49,40 @@ pub fn is_name(text: &[u8], t: Lexeme) -> bool
     requires { Shape text.now t }
     ensures { result ≡ is_name (word_of (token_at text.now t)) }
 {
-    if t.kind != WORD {
-        return false;
-    }
-    if is_word(text, t, b"_") {
-        return false;
-    }
-    !is_reserved(text, t)
+    is_free(word(text, t))
 }
 
 // Whether no word goes on at a place.
+#[tactic(auto, using(crate::specs::Names::shut_end, crate::specs::Names::shut_at))]
 fn ends_word(text: &[u8], at: usize) -> bool
     ensures { result ≡ shuts (drop at text.now) }
 {
-    if text.len() <= at {
-        return true;
-    }
-    !goes_on(text[at], true)
+    text.len() <= at || !goes_on(text[at], Tail::Letters)
 }
 
 /// Whether the name at a place is the word of a token.
+#[tactic(auto, using(crate::specs::Names::name_sent_same))]
 pub fn is_same(text: &[u8], place: usize, t: Lexeme) -> bool
-    requires { Shape text.now t × (t.kind ≡ 97) }
+    requires { Shape text.now t × (t.kind ≡ Word) }
     ensures { result ≡ same (name_at text.now place) (word_of (token_at text.now t)) }
 {
     if text.len() <= place {
         return is_word(text, t, b"sent");
     }
-    let mut i = 0;
-    while i < t.end - t.at {
-        if text.len() - place <= i {
-            return false;
-        }
-        if text[place + i] != text[t.at + i] {
-            return false;
-        }
-        i += 1;
-    }
-    ends_word(text, place + i)
+    let word = &text[t.at..t.end];
+    text[place..].starts_with(word) && ends_word(text, place + word.len())
 }
 
-/// The number of a name among `many`, of which the first stands at `base`; `many` where it is none of them.
-pub fn lookup(text: &[u8], names: &[usize], base: usize, many: usize, t: Lexeme) -> usize
-    requires { Shape text.now t × (t.kind ≡ 97) × (base + many ≤ length names.now) }
-    ensures { Found text.now names.now base many (word_of (token_at text.now t)) result }
+/// The number of a name among `many`, of which the first stands at `base`; the last of those that are the same.
+#[tactic(auto, using(crate::specs::Names::above_all, crate::specs::Names::above_one, crate::specs::Names::above_found, crate::specs::Names::above_none))]
+pub fn lookup(text: &[u8], names: &[usize], base: usize, many: usize, t: Lexeme) -> Option<usize>
+    requires { Shape text.now t × (t.kind ≡ Word) × (base + many ≤ length names.now) }
+    ensures { result ≡ found (find (stack_of text.now names.now base many) (word_of (token_at text.now t))) }
 {
-    let mut i = many;
-    while 0 < i {
-        if is_same(text, names[base + i - 1], t) {
-            return i - 1;
+    for i in (0..many).rev() {
+        if is_same(text, names[base + i], t) {
+            return Some(i);
         }
-        i -= 1;
     }
-    many
+    None
 }

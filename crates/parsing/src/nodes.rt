@@ -3,13 +3,10 @@ ghost use Rattle.std.specs.Prelude.{◌≡◌, ◌+◌, ◌*◌, ◌≤◌, leng
 ghost use Rattle.std.proofs.lemmas.List.Edits.{sets};
 
 /// The record of node n.
+#[tactic(auto, using(crate::specs::Nodes::copied))]
 pub fn store(slots: &mut [u8], n: usize, row: [u8; 8])
     requires { (length row ≡ 8) × (8 * n + 8 ≤ length slots.old) }
     ensures { slots.new ≡ sets slots.old (8 * n) row }
 {
-    let mut i = 0;
-    while i < 8 {
-        slots[8 * n + i] = row[i];
-        i += 1;
-    }
+    slots[8 * n..8 * n + 8].copy_from_slice(&row);
 }

@@ -12,7 +12,7 @@ use crate::cursor::{Cursor, fault, read as behind};
 use crate::expect::{Scope, bind, keyword, symbol};
 use crate::expr::{expr, two};
 use crate::names::{is_name, is_word, lookup};
-use lexing::{END, next};
+use lexing::{Kind, next};
 
 // A 17th name of the plan, or none.
 fn full(text: &[u8], c: Cursor) -> Cursor
@@ -50,7 +50,7 @@ fn plan(text: &[u8], names: &mut [usize], i: usize, c: Cursor) -> Cursor
         return b;
     }
     let t = next(text, b.at);
-    if t.kind != b',' {
+    if !t.is(Kind::Mark(b',')) {
         return behind(b, b.at, i + 1, 0);
     }
     plan(text, names, i + 1, behind(b, t.end, 0, 0))
@@ -68,7 +68,7 @@ fn title(text: &[u8], fresh: &mut [usize], i: usize, c: Cursor) -> Cursor
     if !is_name(text, t) {
         return fault(c, 90, t.at, 7);
     }
-    if lookup(text, fresh, 1, i, t) < i {
+    if lookup(text, fresh, 1, i, t).is_some() {
         return fault(c, 92, t.at, 51);
     }
     fresh[1 + i] = t.at;
@@ -90,15 +90,15 @@ fn section(
         names.new slots.new fresh.new result }
 {
     let named = title(text, fresh, i, c);
-    let open = symbol(text, named, b'(', 8);
+    let open = symbol(text, named, Kind::Mark(b'('), 8);
     let none = Scope {
         base: 0,
         many: 0,
         lost: 40,
     };
-    let bound = two(text, names, none, open, b',', 9);
-    let close = symbol(text, bound, b')', 10);
-    let equals = symbol(text, close, b'=', 4);
+    let bound = two(text, names, none, open, Kind::Mark(b','), 9);
+    let close = symbol(text, bound, Kind::Mark(b')'), 10);
+    let equals = symbol(text, close, Kind::Mark(b'='), 4);
     let both = Scope {
         base: 0,
         many: 2,
@@ -127,7 +127,7 @@ fn sections(
         return c;
     }
     let t = next(text, c.at);
-    if t.kind == END {
+    if t.is(Kind::End) {
         return behind(c, c.at, i, 0);
     }
     if !is_word(text, t, b"section") {
@@ -163,8 +163,8 @@ fn pass(
         code: 0,
         detail: 0,
     };
-    let word = keyword(text, start, b"plan", 1);
-    let k = plan(text, names, 0, word);
+    let opened = keyword(text, start, b"plan", 1);
+    let k = plan(text, names, 0, opened);
     if k.code != 0 {
         return k;
     }
@@ -172,7 +172,7 @@ fn pass(
     front[1] = k.found as u8;
     front[2] = 0;
     let list = keyword(text, k, b"list", 3);
-    let equals = symbol(text, list, b'=', 4);
+    let equals = symbol(text, list, Kind::Mark(b'='), 4);
     let known = Scope {
         base: 0,
         many: k.found,
@@ -197,10 +197,8 @@ fn records(slots: &[u8], count: usize, out: &mut [u8], at: usize) -> usize
     ensures { Wrote (records_from slots.now 0 count) at out.old out.new result }
 {
     let mut end = report::place(out, at);
-    let mut n = 0;
-    while n < count {
+    for n in 0..count {
         end = record(slots, n, out, end);
-        n += 1;
     }
     end
 }

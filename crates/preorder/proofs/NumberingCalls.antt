@@ -1,14 +1,14 @@
 -- A sheet's bytes written anew in the one numbering (request 12): what is written is read out and back as before, and written again it is the same.
 use Rattle.std.specs.Prelude.{◌≡◌, refl, Bool, true, false, cond, List, ℕ, ◌≤◌, leb, ltb, length}
 use Rattle.std.proofs.Common.{ap, sym, ◌∙◌, arith, ltb-false}
-use Rattle.value.specs.Result.{Result, ok, refusal, and_then}
+use Rattle.value.specs.Result.{Result, ok, refusal, and_then, map_result}
 use Rattle.value.specs.Reading.{read_plan}
 use Rattle.sheet.specs.Sheet.{Sheet, read_sheet}
 use Rattle.sheet.specs.Laws.{Ranges, sheet_ranges}
 use Rattle.sheet.specs.Rows.{sheet_written}
 use Rattle.rules.specs.Answer.{get_answer, put_answer}
 use Rattle.rules.specs.Bits.{put_written}
-use Rattle.starts.specs.Starts.{loaded, load_of}
+use Rattle.starts.specs.Starts.{starts_of, load_of}
 use Rattle.rules.specs.Explain.Calls.{why_get, why_put}
 use Rattle.embedding.specs.EmbeddingAnswers.{explanation_anew}
 use Rattle.embedding.proofs.EmbeddingAnswers.{get_answer_same, put_answer_same, put_written_same, why_get_same, why_put_same}
@@ -71,7 +71,7 @@ module _ {s t : List ℕ} (h : Anew s t) where
 
   pub numbered_load : (plan : List ℕ) → load_of t plan ≡ load_of s plan
   unfolding load_of and_then
-  numbered_load plan = rw (h.read, numbered_read) (ap (λ k. loaded (read_plan k plan)) (same_k ranges h.once))
+  numbered_load plan = rw (h.read, numbered_read) (ap (λ k. map_result starts_of (read_plan k plan)) (same_k ranges h.once))
 
   -- and is refused where it was, in the new numbers
   pub numbered_why_get : (plan : List ℕ) (allowance scratch : ℕ)

@@ -1,21 +1,22 @@
 -- WHAT PRINTING ANSWERS: the definition that `print` is held to.
-use Rattle.std.specs.Prelude.{◌≡◌, refl, Bool, true, false, cond, List, ℕ, ◌≤◌, ◌<◌, leb, ltb, length}
+use Rattle.std.specs.Prelude.{◌≡◌, refl, Bool, true, false, cond, List, ℕ, ◌≤◌, ◌<◌, leb, ltb, length, Err}
 use Rattle.std.proofs.Common.{sym, ◌∙◌, arith, le-leb}
 use Rattle.std.proofs.Math.Path.{ap}
 use Rattle.std.proofs.lemmas.Bool.{lt-leb}
-use Rattle.value.specs.Result.{Result, ok, refusal}
+use Rattle.value.specs.Result.{Result, ok, refusal, map_result}
 use Rattle.sheet.specs.Sheet.{Sheet, read_sheet}
 use Rattle.sheet.specs.Rows.{sheet_written}
 use Rattle.preorder.specs.Numbering.{numbered}
 use Rattle.preorder.specs.Uses.{lowest_twice}
 use Rattle.preorder.specs.NumberAnswer.{Answer, done, refused, twice, sheet_answer, number_answer}
 use Rattle.syntax.specs.Texts.{text_of, sheet_printed, printed_bytes}
-use Rattle.numbering.specs.declared.Numbered.{Numbered}
-use Rattle.numbering.specs.declared.Numbered.TheVariants.{Done, Refused, Twice}
-use Rattle.numbering.specs.Replies.{reply_of, Answers, answers_no, answers_twice, answers_done}
+use Rattle.numbering.specs.declared.Fault.{Fault}
+use Rattle.numbering.specs.declared.Fault.TheVariants as fault
+use Rattle.numbering.specs.Replies.{Reply, Done, Refused, Twice, told, reply_of, Answers, answers_no, answers_twice, answers_done}
 use Rattle.numbering.specs.Counting.{Fine, fine_read}
 use Rattle.sheet.specs.declared.Table.{Table}
 use Rattle.sheet.specs.Table.{table_of}
+use Rattle.sheet.specs.Laws.{table_refused}
 use Rattle.sheet.proofs.Written.{Bytes}
 use Rattle.report.specs.Writing.{wrote_text}
 use Rattle.syntax.proofs.Short.{printed_short}
@@ -74,30 +75,34 @@ module _ (s b : List ℕ) where
   pub no_room : length b < 16384 → Answers (print_answer s (length b)) (Refused 1) b b
   no_room h = answers_no (print_answer s (length b)) b (print_1 s (length b) h)
 
-  module _ (room : 16384 ≤ length b) {m : ℕ} (enough : 2048 ≤ m) {r : Numbered} (e : r ≡ reply_of (number_answer s m)) where
-    told : r ≡ reply_of (sheet_answer (read_sheet s))
-    told = e ∙ ap reply_of (number_is s m enough)
+  module _ (room : 16384 ≤ length b) {m : ℕ} (enough : 2048 ≤ m) {r : Reply} (e : r ≡ reply_of (number_answer s m)) where
+    replied : r ≡ reply_of (sheet_answer (read_sheet s))
+    replied = e ∙ ap reply_of (number_is s m enough)
 
     pub no_sheet : {c : ℕ} → r ≡ Refused c → Answers (print_answer s (length b)) (Refused c) b b
     unfolding printed_bytes
-    no_sheet f = answers_no (print_answer s (length b)) b (print_room s (length b) room ∙ refused_as (read_sheet s) (sym told ∙ f))
+    no_sheet f = answers_no (print_answer s (length b)) b (print_room s (length b) room ∙ refused_as (read_sheet s) (sym replied ∙ f))
 
     pub is_twice : {n : ℕ} → r ≡ Twice n → Answers (print_answer s (length b)) (Twice n) b b
     unfolding printed_bytes
-    is_twice f = answers_twice (print_answer s (length b)) b (print_room s (length b) room ∙ twice_as (read_sheet s) (sym told ∙ f))
+    is_twice f = answers_twice (print_answer s (length b)) b (print_room s (length b) room ∙ twice_as (read_sheet s) (sym replied ∙ f))
 
-    pub is_fine : {l : ℕ} {t : Table} → r ≡ Done l → t ≡ table_of (read_sheet s) → Fine s t
-    unfolding table_of
-    is_fine f g =
-        let (sh, q, z) = done_as (read_sheet s) (sym told ∙ f) in
-        record { table = g; zero = ap (λ (x : Table). x.refusal) (g ∙ ap table_of q) }
-
-    pub is_done : {l n : ℕ} {t : Table} {b' : List ℕ} → r ≡ Done l → t ≡ table_of (read_sheet s) → Bytes s → Prints s t b b' n
+    pub is_done : {l n : ℕ} {t : Table} {b' : List ℕ} → r ≡ Done l → (g : Fine s t) → Bytes s → Prints s t b b' n
         → Answers (print_answer s (length b)) (Done n) b b'
-    unfolding printed_bytes is_fine
+    unfolding printed_bytes
     is_done f g small p =
-        let (sh, q, z) = done_as (read_sheet s) (sym told ∙ f) in
-        let (y, x) = fine_read (is_fine f g) in
+        let (sh, q, z) = done_as (read_sheet s) (sym replied ∙ f) in
+        let (y, x) = fine_read g in
         let same : y ≡ sh = let w = x.sheet in cc in
         answers_done (print_answer s (length b)) (print_room s (length b) room ∙ z) (wrote_text (p.told y x) (ap text_of same))
         (omega (arith, printed_short s small z))
+
+  module _ (room : 16384 ≤ length b) where
+    -- numbering has a fault
+    pub no_text : {m : ℕ} → 2048 ≤ m → (x : Fault) → told (Err x) ≡ reply_of (number_answer s m) → Answers (print_answer s (length b)) (told (Err x)) b b
+    no_text enough (fault.Refused c) e = no_sheet room enough e refl
+    no_text enough (fault.Twice n) e = is_twice room enough e refl
+
+    pub unread : {c : ℕ} → refusal c ≡ map_result table_of (read_sheet s) → Answers (print_answer s (length b)) (Refused c) b b
+    unfolding printed_bytes sheet_printed
+    unread e = answers_no (print_answer s (length b)) b (print_room s (length b) room ∙ ap sheet_printed (table_refused s e))

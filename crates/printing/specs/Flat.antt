@@ -1,5 +1,5 @@
 -- WHICH NODES HAVE NO CASE IN THEM: marks from the last node to the first are those of the definition.
-use Rattle.std.specs.Prelude.{◌≡◌, Bool, true, false, ◌&&◌, cond, leb, eqb, length, get_or, set}
+use Rattle.std.specs.Prelude.{◌≡◌, Bool, true, false, ◌&&◌, cond, leb, length, get_or, set}
 use Rattle.std.proofs.Math.Path.{refl, ap}
 use Rattle.std.proofs.Common.{sym, ◌∙◌, arith, get_or-set_same, get_or-set_other, le-leb}
 use mathlib.Core.List.{List, [], ◌∷◌}
@@ -18,21 +18,17 @@ use Rattle.preorder.specs.Numbering.{node_of}
 use Rattle.syntax.specs.Printer.{no_case, all_plain, plain_from, plain_node}
 
 -- node n is marked
-unfoldable pub flat_in : List ℕ → ℕ → Bool
-flat_in plain n = cond (leb 200 n) false (eqb (get_or plain n 0) 1)
+unfoldable pub flat_in : List Bool → ℕ → Bool
+flat_in plain n = cond (leb 200 n) false (get_or plain n false)
 
-unfoldable pub plain_of : List ℕ → Node → Bool
+unfoldable pub plain_of : List Bool → Node → Bool
 plain_of plain n = no_case n && all_plain (flat_in plain) (children n)
 
-unfoldable pub bit_of : Bool → ℕ
-bit_of true = 1
-bit_of false = 0
-
-pub flat_past : (plain : List ℕ) (n : ℕ) → 200 ≤ n → flat_in plain n ≡ false
+pub flat_past : (plain : List Bool) (n : ℕ) → 200 ≤ n → flat_in plain n ≡ false
 unfolding flat_in
 flat_past plain n h = rw (le-leb 200 n h)
 
-pub flat_there : (plain : List ℕ) (n : ℕ) → n < 200 → flat_in plain n ≡ eqb (get_or plain n 0) 1
+pub flat_there : (plain : List Bool) (n : ℕ) → n < 200 → flat_in plain n ≡ get_or plain n false
 unfolding flat_in
 flat_there plain n h = rw (lt-leb 200 n h)
 
@@ -51,11 +47,6 @@ both_no f a b e h = sym (ap (λ z. z && (f b && true)) (sym e ∙ h))
 pub one_is : (f : ℕ → Bool) (a : ℕ) → all_plain f (a ∷ []) ≡ f a
 unfolding all_plain
 one_is f a = and-true (f a)
-
-bit_read : (b : Bool) → eqb (bit_of b) 1 ≡ b
-unfolding bit_of
-bit_read true = refl
-bit_read false = refl
 
 -- LEVELS: enough are enough
 module _ {sh : Sheet} (r : Ranges sh) where
@@ -77,19 +68,19 @@ module _ {sh : Sheet} (r : Ranges sh) where
       (children_in r n h))
 
 -- the marks from node n on
-pub record Flats (sh : Sheet) (n : ℕ) (plain : List ℕ) : Type 0 where
-  pub told : (i : ℕ) → n ≤ i → i < length sh.nodes → eqb (get_or plain i 0) 1 ≡ plain_node sh i
+pub record Flats (sh : Sheet) (n : ℕ) (plain : List Bool) : Type 0 where
+  pub told : (i : ℕ) → n ≤ i → i < length sh.nodes → get_or plain i false ≡ plain_node sh i
 
-pub flats_none : {s : List ℕ} {t : Table} {sh : Sheet} {plain : List ℕ} → Reads s t sh → Flats sh t.nodes plain
+pub flats_none : {s : List ℕ} {t : Table} {sh : Sheet} {plain : List Bool} → Reads s t sh → Flats sh t.nodes plain
 flats_none r = record { told = λ i h d. absurd (omega (arith, r.nodes)) }
 
-pub flats_all : {sh : Sheet} {n : ℕ} {plain : List ℕ} → Flats sh n plain → n ≤ 0 → Flats sh 0 plain
+pub flats_all : {sh : Sheet} {n : ℕ} {plain : List Bool} → Flats sh n plain → n ≤ 0 → Flats sh 0 plain
 flats_all f h = record { told = λ i z d. f.told i (omega arith) d }
 
-pub flats_more : {s : List ℕ} {t : Table} {sh : Sheet} {n m : ℕ} {plain : List ℕ} {x : Node} {b : Bool} {v : ℕ} → Reads s t sh → Flats sh m plain → m ≡ suc n
-    → m ≤ t.nodes → length plain ≡ 200 → x ≡ node_at s (get_or t.starts n 0) → b ≡ plain_of plain x → v ≡ bit_of b → Flats sh n (set plain n v)
+pub flats_more : {s : List ℕ} {t : Table} {sh : Sheet} {n m : ℕ} {plain : List Bool} {x : Node} {b : Bool} → Reads s t sh → Flats sh m plain → m ≡ suc n
+    → m ≤ t.nodes → length plain ≡ 200 → x ≡ node_at s (get_or t.starts n 0) → b ≡ plain_of plain x → Flats sh n (set plain n b)
 unfolding plain_from plain_of
-flats_more {s} {t} {sh} {n} {m} {plain} {x} {b} {v} r f e few long at p q = record { told = λ i h d. go i h d (ℕ_discrete i n) }
+flats_more {s} {t} {sh} {n} {m} {plain} {x} {b} r f e few long at p = record { told = λ i h d. go i h d (ℕ_discrete i n) }
   where
     inside : n < length sh.nodes
     inside = omega (arith, r.nodes)
@@ -104,9 +95,9 @@ flats_more {s} {t} {sh} {n} {m} {plain} {x} {b} {v} r f e few long at p q = reco
     own (suc l) z = ap (λ w. no_case (node_of sh n) && w)
         (all_same r.ranges (flat_in plain) (plain_from l sh) n (kid l z) (children (node_of sh n)) (children_in r.ranges n inside))
 
-    go : (i : ℕ) → n ≤ i → i < length sh.nodes → Dec (i ≡ n) → eqb (get_or (set plain n v) i 0) 1 ≡ plain_node sh i
+    go : (i : ℕ) → n ≤ i → i < length sh.nodes → Dec (i ≡ n) → get_or (set plain n b) i false ≡ plain_node sh i
     go i h d (yes z) =
         let there : n < length plain = omega (arith, r.ranges.few_nodes, inside) in
-        ap (λ k. eqb (get_or (set plain n v) k 0) 1) z ∙ ap (λ k. eqb k 1) (get_or-set_same plain n v 0 there ∙ q) ∙ bit_read b ∙ p
+        ap (λ k. get_or (set plain n b) k false) z ∙ get_or-set_same plain n b false there ∙ p
         ∙ ap (plain_of plain) (at ∙ r.node n inside) ∙ own (length sh.nodes) refl ∙ ap (plain_node sh) (sym z)
-    go i h d (no z) = ap (λ k. eqb k 1) (get_or-set_other plain n i v 0 z) ∙ f.told i (omega arith) d
+    go i h d (no z) = get_or-set_other plain n i b false z ∙ f.told i (omega arith) d

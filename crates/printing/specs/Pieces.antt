@@ -1,6 +1,6 @@
 -- THE PARTS OF A TEXT between one node and the next, and that numbers are said as `report` writes them.
 use Rattle.std.specs.Prelude.{◌≡◌, refl, Bool, true, false, List, [], ◌∷◌, ◌++◌, ℕ, zero, suc, min, ◌+◌, ◌/◌, ◌%◌, ◌≤◌, ◌<◌, length, replicate}
-use Rattle.std.proofs.Common.{sym, ap, ◌∙◌, append_assoc, append-nil, arith, add-one, lt-ltb, le-ltb}
+use Rattle.std.proofs.Common.{sym, ap, ◌∙◌, append_assoc, append-nil, add-one, arith, lt-ltb, le-ltb}
 use Rattle.report.specs.Text.{digit_of, decimal_of}
 use Rattle.report.proofs.TextLaws.{decimal_small, decimal_more, by_digits}
 use Rattle.report.specs.Writing.{Wrote, wrote_then, wrote_text}
@@ -8,10 +8,17 @@ use Rattle.tokens.specs.Quoted.{bytes}
 use Rattle.tokens.specs.Laid.{spelled}
 use Rattle.syntax.specs.NameLaws.{small_dec, large_dec}
 use Rattle.syntax.specs.Printer.{Reach, reach, dec, decimal, suffix, name_of, called, part_name, variable_said, test_name, line, or_line, unless_plain}
+use Rattle.printing.specs.declared.pieces.First.{First}
+use Rattle.printing.specs.declared.pieces.First.TheVariants.{A, Sent}
 use Rattle.printing.specs.declared.pieces.Scope.{Scope}
 
+-- the first variable is what was sent
+abbrev pub is_sent : First → Bool
+is_sent A = false
+is_sent Sent = true
+
 abbrev pub reach_of : Scope → Reach
-reach_of w = reach w.count w.sent
+reach_of w = reach w.count (is_sent w.first)
 
 -- few variables and few blanks
 pub record Bounded (w : Scope) : Type 0 where
@@ -106,7 +113,7 @@ name_more false n h = rw (suffix_more (n / 26) (omega arith))
 name_more true zero h = absurd (omega arith)
 name_more true (suc n) h = rw (suffix_more (suc n / 26) (omega arith))
 
-pub variable_in : (w : Scope) (n : ℕ) → n < w.count → spelled (variable_said (reach_of w) n) ≡ called w.sent n
+pub variable_in : (w : Scope) (n : ℕ) → n < w.count → spelled (variable_said (reach_of w) n) ≡ called (is_sent w.first) n
 unfolding variable_said spelled
 variable_in w n h = rw (lt-ltb n w.count h)
 

@@ -1,5 +1,5 @@
 -- WHAT A FUNCTION OF THE PRINTER WRITES: the text of what the definition says before whatever follows it.
-use Rattle.std.specs.Prelude.{◌≡◌, Bool, true, List, ◌∷◌, ◌++◌, ℕ, suc, pred, ◌+◌, ◌*◌, ◌≤◌, ◌<◌, eqb, length, get_or}
+use Rattle.std.specs.Prelude.{◌≡◌, Bool, true, false, List, ◌∷◌, ◌++◌, ℕ, suc, pred, ◌+◌, ◌*◌, ◌≤◌, ◌<◌, length, get_or}
 use Rattle.std.proofs.Common.{sym, ap, ◌∙◌, append_assoc, arith}
 use Rattle.report.specs.Writing.{Wrote, wrote_then, wrote_long}
 use Rattle.node.specs.declared.Node.{Node}
@@ -30,14 +30,14 @@ says_then {f} {g} p q = record {
   is = λ k. p.is (g k) ∙ ap (λ (t : List ℕ). p.text ++ t) (q.is k) ∙ sym (append_assoc p.text q.text (text_in k));
 }
 
--- WHAT THE FUNCTIONS ARE LENT: a sheet's bytes, where each record starts, and 1 for each node that has no case in it
-pub record Known (s starts plain : List ℕ) (sh : Sheet) : Type 0 where
+-- WHAT THE FUNCTIONS ARE LENT: a sheet's bytes, where each record starts, and a mark for each node that has no case in it
+pub record Known (s starts : List ℕ) (plain : List Bool) (sh : Sheet) : Type 0 where
   pub node : (i : ℕ) → i < length sh.nodes → node_at s (get_or starts i 0) ≡ node_of sh i
-  pub flat : (i : ℕ) → i < length sh.nodes → eqb (get_or plain i 0) 1 ≡ plain_node sh i
+  pub flat : (i : ℕ) → i < length sh.nodes → get_or plain i false ≡ plain_node sh i
   pub ranges : Ranges sh
 
 -- node n is there, and so far below the roots there are few variables and few blanks
-pub record Ready (s starts plain : List ℕ) (n : ℕ) (w : Scope) : Type 0 where
+pub record Ready (s starts : List ℕ) (plain : List Bool) (n : ℕ) (w : Scope) : Type 0 where
   pub sheet : Sheet
   pub known : Known s starts plain sheet
   pub inside : n < length sheet.nodes
@@ -45,13 +45,13 @@ pub record Ready (s starts plain : List ℕ) (n : ℕ) (w : Scope) : Type 0 wher
   pub shallow : w.indent ≤ 6 * n + 2
 
 -- and it is a node of this kind
-pub record Standing (s starts plain : List ℕ) (n : ℕ) (w : Scope) (node : Node) (kind : ℕ) : Type 0 where
+pub record Standing (s starts : List ℕ) (plain : List Bool) (n : ℕ) (w : Scope) (node : Node) (kind : ℕ) : Type 0 where
   pub ready : Ready s starts plain n w
   pub is : node_at s (get_or starts n 0) ≡ node
   pub of_kind : (row node).kind ≡ kind
 
 -- the rest of a list may have its node two blanks to the right
-pub record Trailing (s starts plain : List ℕ) (n : ℕ) (w : Scope) : Type 0 where
+pub record Trailing (s starts : List ℕ) (plain : List Bool) (n : ℕ) (w : Scope) : Type 0 where
   pub ready : Ready s starts plain n w
   pub shallower : w.indent ≤ 6 * n
 
@@ -93,10 +93,10 @@ meant (Branch w t) n sh l k = body_said (said sh l) (plain_node sh) (reach_of w)
 meant (Defaults w x) n sh l k = defaults_said (said sh (pred l)) (plain_node sh) (reach_of w) w.indent x k
 
 -- WHAT THEY TELL: whatever the sheet is, and with whatever levels are enough for node n
-pub record Tells (s starts plain : List ℕ) (n : ℕ) (x : Way) (i : ℕ) (b b' : List ℕ) (r : ℕ) : Type 0 where
+pub record Tells (s starts : List ℕ) (plain : List Bool) (n : ℕ) (x : Way) (i : ℕ) (b b' : List ℕ) (r : ℕ) : Type 0 where
   pub told : (sh : Sheet) → Known s starts plain sh → n < length sh.nodes → (l : ℕ) → length sh.nodes ≤ n + l → Says (meant x n sh l) i b b' r
 
-module _ {s starts plain : List ℕ} {n : ℕ} {w : Scope} where
+module _ {s starts : List ℕ} {plain : List Bool} {n : ℕ} {w : Scope} where
   pub ready_few : Ready s starts plain n w → n < 200
   ready_few r = omega (arith, r.inside, r.known.ranges.few_nodes)
 

@@ -15,9 +15,7 @@ use Rattle.preorder.specs.Uses.{lowest_twice}
 use Rattle.preorder.specs.NumberAnswer.{Answer, done, refused, twice}
 use Rattle.syntax.specs.Texts.{text_of, sheet_printed, printed_bytes}
 use Rattle.syntax.proofs.Short.{printed_short}
-use Rattle.numbering.specs.declared.Numbered.{Numbered}
-use Rattle.numbering.specs.declared.Numbered.TheVariants.{Done, Twice}
-use Rattle.numbering.specs.Replies.{reply_of}
+use Rattle.numbering.specs.Replies.{Reply, Done, Twice, reply_of}
 use Rattle.printing.specs.Answer.{print_answer, print_1, print_room}
 
 module _ (s : List ℕ) (n : ℕ) where
@@ -50,7 +48,7 @@ module _ (s : List ℕ) (n : ℕ) where
       go (ok sh) q z = pass sh q (ltb (lowest_twice sh) (length sh.nodes)) refl z
       go (refusal c) q z = let w : ◌≡◌ {A = ℕ} 0 1 = cc in absurd (omega arith)
 
-  module _ {r : Numbered} (e : r ≡ reply_of (print_answer s n)) where
+  module _ {r : Reply} (e : r ≡ reply_of (print_answer s n)) where
     pub text_inside : {k : ℕ} → Bytes s → r ≡ Done k → k ≤ 16384
     unfolding reply_of
     text_inside {k} small f = go (print_answer s n) refl (sym e ∙ f)

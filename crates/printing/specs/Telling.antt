@@ -1,5 +1,5 @@
 -- EACH KIND OF NODE, said part by part: from what its parts wrote to what the definition says of the node.
-use Rattle.std.specs.Prelude.{◌≡◌, refl, Bool, true, false, eqb, get_or}
+use Rattle.std.specs.Prelude.{◌≡◌, refl, Bool, false, get_or}
 use Rattle.std.proofs.Math.Path.{sym, ap, subst}
 use Rattle.std.proofs.Common.{◌∙◌, arith, add-one}
 use mathlib.Core.List.{List, [], ◌∷◌, ◌++◌, append_assoc}
@@ -20,8 +20,9 @@ use Rattle.tokens.specs.Laid.{spelled}
 use Rattle.syntax.specs.Printer.{Piece, tok, gap, the, sign, space, line, or_line, unless_plain, called, part_name, variable_said, test_said}
 use Rattle.syntax.specs.Printer.{alone, spoken, tailed, TailOf, another, tail_of, plain_node, said, binder}
 use Rattle.syntax.specs.Setting.{text_in}
+use Rattle.printing.specs.declared.pieces.First.TheVariants.{A, Sent}
 use Rattle.printing.specs.declared.pieces.Scope.{Scope}
-use Rattle.printing.specs.Pieces.{reach_of, test_text, call_text, binders_text, empty_text, front_text, first_text, rest_text, each_text, with_text, decimal_is}
+use Rattle.printing.specs.Pieces.{is_sent, reach_of, test_text, call_text, binders_text, empty_text, front_text, first_text, rest_text, each_text, with_text, decimal_is}
 use Rattle.printing.specs.Saying.{Says, says_then, Known, Ready, Standing, Trailing, Alone, Rest, Body, Branch, Defaults, defaults_said, meant, Tells}
 
 -- a text that was written, as what is said
@@ -51,25 +52,25 @@ pub says_as : {f g : List Piece → List Piece} {i r : ℕ} {b b' : List ℕ} �
 says_as p e = record { text = p.text; put = p.put; is = λ k. e k ∙ p.is k }
 
 abbrev pub deeper : Scope → ℕ → Scope
-deeper w i = record { count = w.count; sent = w.sent; indent = w.indent + i }
+deeper w i = record { count = w.count; first = w.first; indent = w.indent + i }
 
 abbrev pub wider : Scope → Scope
-wider w = record { count = w.count + 2; sent = w.sent; indent = w.indent }
+wider w = record { count = w.count + 2; first = w.first; indent = w.indent }
 
 abbrev pub sent_in : ℕ → Scope
-sent_in i = record { count = 1; sent = true; indent = i }
+sent_in i = record { count = 1; first = Sent; indent = i }
 
 plus_two : (n : ℕ) → n + 2 ≡ suc (suc n)
 plus_two n = omega arith
 
 -- A NODE WITH WHAT IT NAMES
 
-module _ {s starts plain : List ℕ} {n : ℕ} where
+module _ {s starts : List ℕ} {plain : List Bool} {n : ℕ} where
   ranged : {sh : Sheet} {x : Node} → Known s starts plain sh → n < length sh.nodes → node_at s (get_or starts n 0) ≡ x
       → Ranged (length sh.nodes) (length sh.sections) n x
   ranged {sh} {x} k h e = let z : node_of sh n ≡ x = sym (k.node n h) ∙ e in rw z at (k.ranges.node n h)
 
-module _ {s starts plain : List ℕ} {n : ℕ} {w : Scope} where
+module _ {s starts : List ℕ} {plain : List Bool} {n : ℕ} {w : Scope} where
   -- what a node names stands behind it, and may be said
   pub next_ready : (q : Ready s starts plain n w) {c : ℕ} {w' : Scope} → Child (length q.sheet.nodes) n c → w'.count ≤ w.count + 2
       → w'.indent ≤ w.indent + 6 → Ready s starts plain c w'
@@ -101,7 +102,7 @@ module _ {s starts plain : List ℕ} {n : ℕ} {w : Scope} where
     -- the node itself, with one level less for what it names
     tells_deep : {x : Node} → node_at s (get_or starts n 0) ≡ x
         → ((sh : Sheet) → Known s starts plain sh → n < length sh.nodes → (l : ℕ) → length sh.nodes ≤ n + suc l
-        → Says (spoken (said sh l) (plain_node sh) (eqb (get_or plain n 0) 1) (reach_of w) w.indent x) at b b' r)
+        → Says (spoken (said sh l) (plain_node sh) (get_or plain n false) (reach_of w) w.indent x) at b b' r)
         → Tells s starts plain n (Alone w) at b b' r
     unfolding said
     tells_deep {x} e f = record { told = go }
@@ -116,7 +117,7 @@ module _ {s starts plain : List ℕ} {n : ℕ} {w : Scope} where
     pub tells_node : {x : Node} → node_at s (get_or starts n 0) ≡ x
         → ((sh : Sheet) → Known s starts plain sh → Ranged (length sh.nodes) (length sh.sections) n x → (l : ℕ)
         → ((c : ℕ) → Child (length sh.nodes) n c → length sh.nodes ≤ c + l)
-        → Says (spoken (said sh l) (plain_node sh) (eqb (get_or plain n 0) 1) (reach_of w) w.indent x) at b b' r)
+        → Says (spoken (said sh l) (plain_node sh) (get_or plain n false) (reach_of w) w.indent x) at b b' r)
         → Tells s starts plain n (Alone w) at b b' r
     tells_node e f = tells_deep e λ sh k h l d. f sh k (ranged k h e) l (λ c g. omega (arith, g.above))
 
@@ -136,12 +137,12 @@ module _ {s starts plain : List ℕ} {n : ℕ} {w : Scope} where
             subst (λ (y : Node). Says (tailed (said sh l) (plain_node sh) p (plain_node sh n) (reach_of w) w.indent (tail_of y)) at b b' r) (sym z)
             (f sh k h (ranged k h e) l d)
 
-module _ {s starts plain : List ℕ} {n : ℕ} {w : Scope} {node : Node} {kind : ℕ} (q : Standing s starts plain n w node kind) where
+module _ {s starts : List ℕ} {plain : List Bool} {n : ℕ} {w : Scope} {node : Node} {kind : ℕ} (q : Standing s starts plain n w node kind) where
   pub kids : {x : Node} → node ≡ x → Ranged (length q.ready.sheet.nodes) (length q.ready.sheet.sections) n x
   kids e = ranged q.ready.known q.ready.inside (q.is ∙ e)
 
   abbrev flat : Bool
-  flat = eqb (get_or plain n 0) 1
+  flat = get_or plain n false
 
   pub pair_tells : {x y at m₁ m₂ m₃ m₄ m₅ : ℕ} {b b₁ b₂ b₃ b₄ b₅ : List ℕ} → node ≡ Pair x y → Wrote (40 ∷ unless_plain flat) at b b₁ m₁
       → Tells s starts plain x (Alone (deeper w 2)) m₁ b₁ b₂ m₂
@@ -172,7 +173,7 @@ module _ {s starts plain : List ℕ} {n : ℕ} {w : Scope} {node : Node} {kind :
   split_tells e p₁ t₁ p₂ p₃ t₂ = tells_node (q.is ∙ e) λ sh k g l d. says_as
       (says_then (says_parts (λ k. the (bytes "let") ∷ space ∷ sign (bytes "(") ∷ binder (reach_of w) w.count ∷ sign (bytes ",") ∷ space
       ∷ binder (reach_of w) (w.count + 1) ∷ sign (bytes ")") ∷ space ∷ sign (bytes "=") ∷ space ∷ k)
-      (bytes "let (") (called w.sent w.count ∷ bytes ", " ∷ called w.sent (w.count + 1) ∷ bytes ") = " ∷ []) p₁ (λ k. refl))
+      (bytes "let (") (called (is_sent w.first) w.count ∷ bytes ", " ∷ called (is_sent w.first) (w.count + 1) ∷ bytes ") = " ∷ []) p₁ (λ k. refl))
       (says_then (t₁.told sh k g.0.inside l (d _ g.0))
       (says_then (says_text (λ k. space ∷ the (bytes "in") ∷ k) p₂ (λ k. refl))
       (says_then (says_text (λ k. gap (or_line flat (bytes " ") w.indent) ∷ k) p₃ (λ k. refl))
@@ -189,7 +190,7 @@ module _ {s starts plain : List ℕ} {n : ℕ} {w : Scope} {node : Node} {kind :
   pub each_tells : {x c u y at m₁ m₂ m₃ m₄ : ℕ} {b b₁ b₂ b₃ b₄ : List ℕ} → node ≡ Each x c u y → Wrote (each_text c) at b b₁ m₁
       → Tells s starts plain x (Alone (deeper w 2)) m₁ b₁ b₂ m₂
       → Wrote (with_text (reach_of w) u) m₂ b₂ b₃ m₃
-      → Tells s starts plain y (Alone (record { count = 0; sent = false; indent = w.indent + 2 })) m₃ b₃ b₄ m₄ → Tells s starts plain n (Alone w) at b b₄ m₄
+      → Tells s starts plain y (Alone (record { count = 0; first = A; indent = w.indent + 2 })) m₃ b₃ b₄ m₄ → Tells s starts plain n (Alone w) at b b₄ m₄
   unfolding spoken text_in spelled each_text with_text
   each_tells {c = c} {u} e p₁ t₁ p₂ t₂ = tells_node (q.is ∙ e) λ sh k g l d. says_as
       (says_then (says_parts (λ k. the (bytes "each") ∷ space ∷ the (part_name c) ∷ sign (bytes "(") ∷ k) (bytes "each ") (part_name c ∷ bytes "(" ∷ []) p₁
@@ -235,12 +236,12 @@ module _ {s starts plain : List ℕ} {n : ℕ} {w : Scope} {node : Node} {kind :
           let rest = g.1.1.1.1.1.1.0 in
           subst (λ (v : Node). Says (λ k. defaults_said (said sh l) (plain_node sh) (reach_of w) w.indent v k) at b b₅ m₅) (sym e)
           (says_as
-          (says_then (says_parts (λ k. gap (line (w.indent + 4)) ∷ the (bytes "default") ∷ space ∷ the (called w.sent w.count) ∷ space ∷ sign
+          (says_then (says_parts (λ k. gap (line (w.indent + 4)) ∷ the (bytes "default") ∷ space ∷ the (called (is_sent w.first) w.count) ∷ space ∷ sign
           (bytes "=") ∷ k)
-          (line (w.indent + 4)) (bytes "default " ∷ called w.sent w.count ∷ bytes " =" ∷ []) p₁ (λ k. refl))
+          (line (w.indent + 4)) (bytes "default " ∷ called (is_sent w.first) w.count ∷ bytes " =" ∷ []) p₁ (λ k. refl))
           (says_then (t₁.told sh k first.inside l (omega (arith, first.above)))
-          (says_then (says_parts (λ k. sign (bytes ",") ∷ space ∷ the (called w.sent (w.count + 1)) ∷ space ∷ sign (bytes "=") ∷ k) (bytes ", ")
-          (called w.sent (w.count + 1) ∷ bytes " =" ∷ []) p₂ (λ k. refl))
+          (says_then (says_parts (λ k. sign (bytes ",") ∷ space ∷ the (called (is_sent w.first) (w.count + 1)) ∷ space ∷ sign (bytes "=") ∷ k) (bytes ", ")
+          (called (is_sent w.first) (w.count + 1) ∷ bytes " =" ∷ []) p₂ (λ k. refl))
           (says_then (t₂.told sh k rest.inside l (omega (arith, rest.above)))
           (says_parts (λ k. gap (line w.indent) ∷ the (bytes "end") ∷ k) (line w.indent) (bytes "end" ∷ []) p₃ (λ k. refl))))))
           (λ k. rw (add-one w.count)))
@@ -257,8 +258,8 @@ module _ {s starts plain : List ℕ} {n : ℕ} {w : Scope} {node : Node} {kind :
   unfolding spoken text_in spelled empty_text front_text defaults_said
   list_tells e p₁ t₁ p₂ t₂ p₃ t₃ t₄ = tells_deep (q.is ∙ e) λ sh k h l d.
       let g = ranged k h (q.is ∙ e) in
-      let x₁ = called w.sent w.count in
-      let y₁ = called w.sent (w.count + 1) in
+      let x₁ = called (is_sent w.first) w.count in
+      let y₁ = called (is_sent w.first) (w.count + 1) in
       says_as
       (says_then (says_text (λ k. the (bytes "case") ∷ space ∷ k) p₁ (λ k. refl))
       (says_then (t₁.told sh k g.0.inside l (omega (arith, g.0.above)))
@@ -273,7 +274,7 @@ module _ {s starts plain : List ℕ} {n : ℕ} {w : Scope} {node : Node} {kind :
       (λ k. rw (add-one w.count, plus_two w.count))
 
 -- A NODE THAT NAMES NONE
-module _ {s starts plain : List ℕ} {n : ℕ} {w : Scope} {at r : ℕ} {b b' : List ℕ} where
+module _ {s starts : List ℕ} {plain : List Bool} {n : ℕ} {w : Scope} {at r : ℕ} {b b' : List ℕ} where
   pub var_tells : {x : ℕ} → node_at s (get_or starts n 0) ≡ Var x → Wrote (spelled (variable_said (reach_of w) x)) at b b' r
       → Tells s starts plain n (Alone w) at b b' r
   unfolding spoken text_in
@@ -306,13 +307,13 @@ module _ {s starts plain : List ℕ} {n : ℕ} {w : Scope} {at r : ℕ} {b b' : 
       (bytes "(" ∷ spelled (variable_said (reach_of w) x) ∷ bytes ", " ∷ spelled (variable_said (reach_of w) y) ∷ bytes ")" ∷ []) p (λ k. refl)
 
 -- BEHIND AN ARROW, with and without a test
-module _ {s starts plain : List ℕ} {n : ℕ} {w : Scope} {at m r : ℕ} {b b₁ b₂ : List ℕ} where
-  pub body_tells : Wrote (or_line (eqb (get_or plain n 0) 1) (bytes " ") w.indent) at b b₁ m → Tells s starts plain n (Alone w) m b₁ b₂ r
+module _ {s starts : List ℕ} {plain : List Bool} {n : ℕ} {w : Scope} {at m r : ℕ} {b b₁ b₂ : List ℕ} where
+  pub body_tells : Wrote (or_line (get_or plain n false) (bytes " ") w.indent) at b b₁ m → Tells s starts plain n (Alone w) m b₁ b₂ r
       → Tells s starts plain n (Body w) at b b₂ r
   unfolding text_in
   body_tells p t = record {
     told = λ sh k h l d. says_as
-        (says_then (says_text (λ k. gap (or_line (eqb (get_or plain n 0) 1) (bytes " ") w.indent) ∷ k) p (λ k. refl)) (t.told sh k h l d))
+        (says_then (says_text (λ k. gap (or_line (get_or plain n false) (bytes " ") w.indent) ∷ k) p (λ k. refl)) (t.told sh k h l d))
         (λ z. ap (λ (q : Bool). or_line q (bytes " ") w.indent ++ text_in (said sh l alone (reach_of w) w.indent n z)) (sym (k.flat n h)));
   }
 
@@ -321,12 +322,12 @@ unfolding test_said test_text text_in spelled
 test_said_lem zero k = refl
 test_said_lem (suc t) k = simp append_assoc
 
-module _ {s starts plain : List ℕ} {n : ℕ} {w : Scope} {at m r : ℕ} {b b₁ b₂ : List ℕ} where
+module _ {s starts : List ℕ} {plain : List Bool} {n : ℕ} {w : Scope} {at m r : ℕ} {b b₁ b₂ : List ℕ} where
   pub branch_tells : {t : ℕ} → Tells s starts plain n (Body w) at b b₁ m → Wrote (test_text t) m b₁ b₂ r → Tells s starts plain n (Branch w t) at b b₂ r
   branch_tells {t} u p = record { told = λ sh k h l d. says_then (u.told sh k h l d) (says_text (λ k. test_said t k) p (test_said_lem t)) }
 
 -- THE REST OF A LIST
-module _ {s starts plain : List ℕ} {n : ℕ} {w : Scope} (p : Bool) where
+module _ {s starts : List ℕ} {plain : List Bool} {n : ℕ} {w : Scope} (p : Bool) where
   pub end_tells : {at r : ℕ} {b b' : List ℕ} → node_at s (get_or starts n 0) ≡ Empty → Wrote (unless_plain p ++ (93 ∷ [])) at b b' r
       → Tells s starts plain n (Rest p w) at b b' r
   unfolding tailed tail_of text_in spelled

@@ -1,5 +1,5 @@
 -- THE WHOLE SHEET, part by part: the plan, the list, each section.
-use Rattle.std.specs.Prelude.{◌≡◌, refl, false, List, [], ◌∷◌, ◌++◌, ℕ, zero, suc, pred, ◌+◌, ◌≤◌, ◌<◌, length, get_or, drop}
+use Rattle.std.specs.Prelude.{◌≡◌, refl, Bool, false, List, [], ◌∷◌, ◌++◌, ℕ, zero, suc, pred, ◌+◌, ◌≤◌, ◌<◌, length, get_or, drop}
 use Rattle.std.proofs.Common.{sym, ap, subst, ◌∙◌, append_assoc, arith, add-one, drop_of_length-le}
 use Rattle.report.specs.Writing.{Wrote, wrote_then, wrote_text, wrote_long}
 use Rattle.sheet.specs.declared.Table.{Table}
@@ -12,6 +12,7 @@ use Rattle.syntax.specs.Printer.{Piece, gap, the, sign, space, part_name, called
 use Rattle.syntax.specs.Printer.{reach, root_said, plan_said, sections_said, sheet_said, name_of, suffix}
 use Rattle.syntax.specs.Setting.{text_in}
 use Rattle.syntax.specs.Texts.{text_of}
+use Rattle.printing.specs.declared.pieces.First.TheVariants.{A}
 use Rattle.printing.specs.declared.pieces.Scope.{Scope}
 use Rattle.printing.specs.Flat.{Flats}
 use Rattle.printing.specs.Saying.{Says, says_then, Known, Ready, Body, Tells}
@@ -31,7 +32,7 @@ pub record Roots (s : List ℕ) (count : ℕ) (sh : Sheet) : Type 0 where
   pub many : count ≡ length sh.sections
   pub root : (i : ℕ) → i < length sh.sections → section_at s i ≡ get_or sh.sections i 0
 
-pub record Lent (s starts plain : List ℕ) (count : ℕ) : Type 0 where
+pub record Lent (s starts : List ℕ) (plain : List Bool) (count : ℕ) : Type 0 where
   pub sheet : Sheet
   pub known : Known s starts plain sheet
   pub roots : Roots s count sheet
@@ -42,7 +43,7 @@ pub record Sectioned (sh : Sheet) (i at : ℕ) (b b' : List ℕ) (r : ℕ) : Typ
   pub put : Wrote text at b b' r
   pub is : text_in (sections_said sh 0 sh.sections) ≡ text ++ text_in (sections_said sh i (drop i sh.sections))
 
-pub record SectionsPut (s starts plain : List ℕ) (count i at : ℕ) (b b' : List ℕ) (r : ℕ) : Type 0 where
+pub record SectionsPut (s starts : List ℕ) (plain : List Bool) (count i at : ℕ) (b b' : List ℕ) (r : ℕ) : Type 0 where
   pub told : (sh : Sheet) → Known s starts plain sh → Roots s count sh → Sectioned sh i at b b' r
 
 -- THE TEXT of whatever sheet is read
@@ -51,14 +52,14 @@ pub record Prints (s : List ℕ) (t : Table) (b b' : List ℕ) (r : ℕ) : Type 
 
 -- WHAT THEY ARE LENT
 module _ {s : List ℕ} {t : Table} {sh : Sheet} (r : Reads s t sh) where
-  pub known_of : {plain : List ℕ} → Flats sh 0 plain → Known s t.starts plain sh
+  pub known_of : {plain : List Bool} → Flats sh 0 plain → Known s t.starts plain sh
   known_of f = record { node = r.node; flat = λ i h. f.told i (omega arith) h; ranges = r.ranges }
 
   pub roots_of : Roots s t.sections sh
   roots_of = record { many = r.sections; root = r.section }
 
 -- the list's root, and a section's
-pub root_ready : {s : List ℕ} {t : Table} {sh : Sheet} {plain : List ℕ} {w : Scope} → Reads s t sh → Flats sh 0 plain → w.count ≡ t.k → w.indent ≡ 2
+pub root_ready : {s : List ℕ} {t : Table} {sh : Sheet} {plain : List Bool} {w : Scope} → Reads s t sh → Flats sh 0 plain → w.count ≡ t.k → w.indent ≡ 2
     → Ready s t.starts plain t.root w
 root_ready {sh = sh} r f e d = record {
   sheet = sh;
@@ -68,7 +69,7 @@ root_ready {sh = sh} r f e d = record {
   shallow = omega arith;
 }
 
-pub section_ready : {s starts plain : List ℕ} {count i n : ℕ} {w : Scope} → (q : Lent s starts plain count) → i < count → n ≡ section_at s i → w.count ≡ 2
+pub section_ready : {s starts : List ℕ} {plain : List Bool} {count i n : ℕ} {w : Scope} → (q : Lent s starts plain count) → i < count → n ≡ section_at s i → w.count ≡ 2
     → w.indent ≡ 2 → Ready s starts plain n w
 section_ready {s} {i = i} {n} q h e f d =
     let l : i < length q.sheet.sections = omega (arith, q.roots.many) in
@@ -118,7 +119,7 @@ plan_all {i} {k} {at} {r} {b} {b'} p h l = let z : pred i ≡ pred k = omega ari
 
 -- THE SECTIONS, one by one
 
-pub sections_none : {s starts plain : List ℕ} {count at r : ℕ} {b b' : List ℕ} → Wrote [] at b b' r → SectionsPut s starts plain count 0 at b b' r
+pub sections_none : {s starts : List ℕ} {plain : List Bool} {count at r : ℕ} {b b' : List ℕ} → Wrote [] at b b' r → SectionsPut s starts plain count 0 at b b' r
 sections_none w = record { told = λ sh k g. record { text = []; put = w; is = refl } }
 
 drop_next : (l : List ℕ) (i : ℕ) → i < length l → drop i l ≡ get_or l i 0 ∷ drop (suc i) l
@@ -126,8 +127,8 @@ drop_next [] i h = absurd (omega arith)
 drop_next (x ∷ l) zero h = refl
 drop_next (x ∷ l) (suc i) h = drop_next l i (omega arith)
 
-pub sections_more : {s starts plain : List ℕ} {count i n at m₁ m₂ r : ℕ} {b b₁ b₂ b₃ : List ℕ} → SectionsPut s starts plain count i at b b₁ m₁ → i < count
-    → Wrote (head_text i) m₁ b₁ b₂ m₂ → n ≡ section_at s i → Tells s starts plain n (Body (record { count = 2; sent = false; indent = 2 })) m₂ b₂ b₃ r
+pub sections_more : {s starts : List ℕ} {plain : List Bool} {count i n at m₁ m₂ r : ℕ} {b b₁ b₂ b₃ : List ℕ} → SectionsPut s starts plain count i at b b₁ m₁ → i < count
+    → Wrote (head_text i) m₁ b₁ b₂ m₂ → n ≡ section_at s i → Tells s starts plain n (Body (record { count = 2; first = A; indent = 2 })) m₂ b₂ b₃ r
     → SectionsPut s starts plain count (i + 1) at b b₃ r
 unfolding text_in spelled sections_said head_text called name_of suffix
 sections_more {s} {i = i} {n} u h w e t = record {
@@ -152,19 +153,19 @@ sections_more {s} {i = i} {n} u h w e t = record {
     four : (a c d f k : List ℕ) → a ++ (c ++ (d ++ (f ++ k))) ≡ ((a ++ (c ++ d)) ++ f) ++ k
     four a c d f k = simp append_assoc
 
-pub sections_all : {s starts plain : List ℕ} {count i at r : ℕ} {b b' : List ℕ} → SectionsPut s starts plain count i at b b' r → i ≤ count → count ≤ i
+pub sections_all : {s starts : List ℕ} {plain : List Bool} {count i at r : ℕ} {b b' : List ℕ} → SectionsPut s starts plain count i at b b' r → i ≤ count → count ≤ i
     → SectionsPut s starts plain count count at b b' r
 sections_all {s} {starts} {plain} {count} {i} {at} {r} {b} {b'} u h l =
     let z : i ≡ count = omega arith in subst (λ (n : ℕ). SectionsPut s starts plain count n at b b' r) z u
 
-pub sections_long : {s starts plain : List ℕ} {count i at r : ℕ} {b b' : List ℕ} → Lent s starts plain count → SectionsPut s starts plain count i at b b' r
+pub sections_long : {s starts : List ℕ} {plain : List Bool} {count i at r : ℕ} {b b' : List ℕ} → Lent s starts plain count → SectionsPut s starts plain count i at b b' r
     → length b' ≡ length b
 sections_long q u = wrote_long (u.told q.sheet q.known q.roots).put
 
 -- THE WHOLE
-pub prints : {s plain : List ℕ} {t : Table} {m₁ m₂ m₃ m₄ r : ℕ} {b b₁ b₂ b₃ b₄ b₅ : List ℕ} → ((sh : Sheet) → Reads s t sh → Flats sh 0 plain)
+pub prints : {s : List ℕ} {plain : List Bool} {t : Table} {m₁ m₂ m₃ m₄ r : ℕ} {b b₁ b₂ b₃ b₄ b₅ : List ℕ} → ((sh : Sheet) → Reads s t sh → Flats sh 0 plain)
     → Planned (pred t.k) 0 b b₁ m₁ → Wrote (bytes "\nlist =") m₁ b₁ b₂ m₂
-    → Tells s t.starts plain t.root (Body (record { count = t.k; sent = false; indent = 2 })) m₂ b₂ b₃ m₃
+    → Tells s t.starts plain t.root (Body (record { count = t.k; first = A; indent = 2 })) m₂ b₂ b₃ m₃
     → SectionsPut s t.starts plain t.sections t.sections m₃ b₃ b₄ m₄ → Wrote (bytes "\n") m₄ b₄ b₅ r → Prints s t b b₅ r
 unfolding text_of sheet_said text_in spelled sections_said
 prints {t = t} flats p w body sections v = record {

@@ -3,15 +3,16 @@
 
 ghost use Rattle.std.specs.Prelude.{◌≡◌, pred, length};
 ghost use Rattle.report.specs.Writing.{Wrote};
-ghost use Rattle.numbering.specs.Replies.{reply_of, output_of};
+ghost use Rattle.numbering.specs.Replies.{told, reply_of, output_of};
 ghost use Rattle.numbering.specs.Counting.{Fine};
 ghost use Rattle.printing.specs.Whole.{Planned, head_text, Lent, SectionsPut, Prints};
 ghost use Rattle.printing.specs.Answer.{print_answer};
 
 use crate::nodes::body;
-use crate::pieces::{Scope, name, part};
+use crate::pieces::{First, Scope, name, part};
 use crate::plain::plain_nodes;
-use numbering::Numbered;
+use numbering::{Fault, Numbered};
+use refusal::Refusal;
 use report::{byte, bytes};
 use sheet::Table;
 
@@ -27,11 +28,9 @@ fn plan(k: usize, out: &mut [u8], at: usize) -> usize
     ensures { Planned (pred k) at out.old out.new result }
 {
     let mut end = bytes(out, at, b"plan a");
-    let mut i = 1;
-    while i < k {
+    for i in 1..k {
         end = bytes(out, end, b", ");
-        end = name(false, i, out, end);
-        i += 1;
+        end = name(First::A, i, out, end);
     }
     end
 }
@@ -49,7 +48,7 @@ fn head(i: usize, out: &mut [u8], at: usize) -> usize
 fn sections(
     sheet: &[u8],
     table: &[u16; 200],
-    plain: &[u8; 200],
+    plain: &[bool; 200],
     count: usize,
     out: &mut [u8],
     at: usize,
@@ -59,12 +58,11 @@ fn sections(
 {
     let scope = Scope {
         count: 2,
-        sent: false,
+        first: First::A,
         indent: 2,
     };
     let mut end = report::place(out, at);
-    let mut i = 0;
-    while i < count {
+    for i in 0..count {
         end = head(i, out, end);
         end = body(
             sheet,
@@ -75,7 +73,6 @@ fn sections(
             out,
             end,
         );
-        i += 1;
     }
     end
 }
@@ -89,7 +86,7 @@ fn write(sheet: &[u8], t: Table, out: &mut [u8]) -> usize
     let table = t.starts;
     let scope = Scope {
         count: t.k,
-        sent: false,
+        first: First::A,
         indent: 2,
     };
     let mut end = plan(t.k, out, 0);
@@ -102,16 +99,14 @@ fn write(sheet: &[u8], t: Table, out: &mut [u8]) -> usize
 /// A sheet as text, at the front of the output. Refused, and nothing is written: 1 an output under 16,384 bytes; the sheet's own refusals
 /// (10 to 14); 81, `Twice`, the lowest node that is used twice as a child or a root.
 pub fn print(sheet: &[u8], out: &mut [u8]) -> Numbered
-    ensures value { result ≡ reply_of (print_answer sheet.now (length out.old)) }
+    ensures value { told result ≡ reply_of (print_answer sheet.now (length out.old)) }
     ensures out_after { out.new ≡ output_of (print_answer sheet.now (length out.old)) out.old }
 {
     if out.len() < OUTPUT {
-        return Numbered::Refused(1);
+        return Err(Fault::Refused(Refusal::OutputSmall));
     }
     let mut anew = [0u8; numbering::OUTPUT];
-    match numbering::number(sheet, &mut anew) {
-        Numbered::Refused(code) => Numbered::Refused(code),
-        Numbered::Twice(n) => Numbered::Twice(n),
-        Numbered::Done(_) => Numbered::Done(write(sheet, sheet::read_sheet(sheet), out)),
-    }
+    numbering::number(sheet, &mut anew)?;
+    let t = sheet::read_sheet(sheet)?;
+    Ok(write(sheet, t, out))
 }

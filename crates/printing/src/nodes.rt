@@ -1,12 +1,12 @@
-//! Nodes as text. Lent are the sheet, the `table` of where its records start, and `plain`, which is 1 for each node that has no case in it. Each
+//! Nodes as text. Lent are the sheet, the `table` of where its records start, and `plain`, which marks each node that has no case in it. Each
 //! function gives the place behind what it wrote; what a node names stands behind it in the sheet, so that fewer nodes are left at each call.
 ghost use Rattle.std.specs.Prelude.{◌≡◌};
 ghost use Rattle.node.specs.Decoding.{node_at};
 ghost use Rattle.printing.specs.Saying.{Ready, Standing, Trailing, Tells, Alone, Body, Branch, Rest, Defaults};
 
 use crate::pieces::{
-    Scope, binders, call, close_mark, comma, each_default, each_open, empty_arrow, first_default,
-    front_arrow, on_line, open_mark, or_line, rest_default, test, variable,
+    First, Scope, binders, call, close_mark, comma, each_default, each_open, empty_arrow,
+    first_default, front_arrow, on_line, open_mark, or_line, rest_default, test, variable,
 };
 use node::{Node, node_at};
 use report::{bytes, decimal};
@@ -15,7 +15,7 @@ use report::{bytes, decimal};
 pub fn record_at(sheet: &[u8], start: u16) -> Node
     ensures { result ≡ node_at sheet.now start }
 {
-    node_at(sheet, start as usize)
+    node_at(sheet, usize::from(start))
 }
 
 // The node n.
@@ -23,7 +23,7 @@ pub fn record_at(sheet: &[u8], start: u16) -> Node
 fn say(
     sheet: &[u8],
     table: &[u16; 200],
-    plain: &[u8; 200],
+    plain: &[bool; 200],
     n: usize,
     scope: Scope,
     out: &mut [u8],
@@ -38,7 +38,7 @@ fn say(
         Node::False => bytes(out, at, b"false"),
         Node::True => bytes(out, at, b"true"),
         Node::Empty => bytes(out, at, b"[]"),
-        Node::Number(v) => decimal(out, at, v as usize),
+        Node::Number(v) => decimal(out, at, usize::from(v)),
         Node::Front { .. } => front(sheet, table, plain, n, node, scope, out, at),
         Node::Pair { .. } => pair(sheet, table, plain, n, node, scope, out, at),
         Node::ListCase { .. } => list_case(sheet, table, plain, n, node, scope, out, at),
@@ -60,7 +60,7 @@ fn say(
 fn front(
     sheet: &[u8],
     table: &[u16; 200],
-    plain: &[u8; 200],
+    plain: &[bool; 200],
     n: usize,
     node: Node,
     scope: Scope,
@@ -73,7 +73,7 @@ fn front(
     let Node::Front { first, rest } = node else {
         return at;
     };
-    let flat = plain[n] == 1;
+    let flat = plain[n];
     let mut inner = scope;
     inner.indent += 2;
     let mut end = open_mark(flat, b'[', out, at);
@@ -86,7 +86,7 @@ fn front(
 fn list_rest(
     sheet: &[u8],
     table: &[u16; 200],
-    plain: &[u8; 200],
+    plain: &[bool; 200],
     n: usize,
     flat: bool,
     scope: Scope,
@@ -120,7 +120,7 @@ fn list_rest(
 fn pair(
     sheet: &[u8],
     table: &[u16; 200],
-    plain: &[u8; 200],
+    plain: &[bool; 200],
     n: usize,
     node: Node,
     scope: Scope,
@@ -133,7 +133,7 @@ fn pair(
     let Node::Pair { left, right } = node else {
         return at;
     };
-    let flat = plain[n] == 1;
+    let flat = plain[n];
     let mut inner = scope;
     inner.indent += 2;
     let mut end = open_mark(flat, b'(', out, at);
@@ -148,7 +148,7 @@ fn pair(
 pub fn body(
     sheet: &[u8],
     table: &[u16; 200],
-    plain: &[u8; 200],
+    plain: &[bool; 200],
     n: usize,
     scope: Scope,
     out: &mut [u8],
@@ -157,7 +157,7 @@ pub fn body(
     requires { Ready sheet.now table.now plain.now n scope }
     ensures { Tells sheet.now table.now plain.now n (Body scope) at out.old out.new result }
 {
-    let end = or_line(plain[n] == 1, b" ", scope.indent, out, at);
+    let end = or_line(plain[n], b" ", scope.indent, out, at);
     say(sheet, table, plain, n, scope, out, end)
 }
 
@@ -166,7 +166,7 @@ pub fn body(
 fn branch(
     sheet: &[u8],
     table: &[u16; 200],
-    plain: &[u8; 200],
+    plain: &[bool; 200],
     n: usize,
     t: u8,
     scope: Scope,
@@ -185,7 +185,7 @@ fn branch(
 fn list_case(
     sheet: &[u8],
     table: &[u16; 200],
-    plain: &[u8; 200],
+    plain: &[bool; 200],
     n: usize,
     node: Node,
     scope: Scope,
@@ -226,7 +226,7 @@ fn list_case(
 fn defaults(
     sheet: &[u8],
     table: &[u16; 200],
-    plain: &[u8; 200],
+    plain: &[bool; 200],
     n: usize,
     node: Node,
     scope: Scope,
@@ -241,7 +241,7 @@ fn defaults(
     };
     let sent = Scope {
         count: 1,
-        sent: true,
+        first: First::Sent,
         indent: scope.indent + 6,
     };
     let mut end = first_default(scope, out, at);
@@ -256,7 +256,7 @@ fn defaults(
 fn truth_case(
     sheet: &[u8],
     table: &[u16; 200],
-    plain: &[u8; 200],
+    plain: &[bool; 200],
     n: usize,
     node: Node,
     scope: Scope,
@@ -295,7 +295,7 @@ fn truth_case(
 fn split(
     sheet: &[u8],
     table: &[u16; 200],
-    plain: &[u8; 200],
+    plain: &[bool; 200],
     n: usize,
     node: Node,
     scope: Scope,
@@ -308,7 +308,7 @@ fn split(
     let Node::Split { subject, inner } = node else {
         return at;
     };
-    let flat = plain[n] == 1;
+    let flat = plain[n];
     let mut under = scope;
     under.indent += 2;
     let mut wide = scope;
@@ -325,7 +325,7 @@ fn split(
 fn add(
     sheet: &[u8],
     table: &[u16; 200],
-    plain: &[u8; 200],
+    plain: &[bool; 200],
     n: usize,
     node: Node,
     scope: Scope,
@@ -338,7 +338,7 @@ fn add(
     let Node::Add { node: of, amount } = node else {
         return at;
     };
-    let mut end = decimal(out, at, amount as usize);
+    let mut end = decimal(out, at, usize::from(amount));
     end = bytes(out, end, b" + ");
     say(sheet, table, plain, of, scope, out, end)
 }
@@ -348,7 +348,7 @@ fn add(
 fn each(
     sheet: &[u8],
     table: &[u16; 200],
-    plain: &[u8; 200],
+    plain: &[bool; 200],
     n: usize,
     node: Node,
     scope: Scope,
@@ -371,7 +371,7 @@ fn each(
     inner.indent += 2;
     let none = Scope {
         count: 0,
-        sent: false,
+        first: First::A,
         indent: scope.indent + 2,
     };
     let mut end = each_open(section, out, at);

@@ -3,29 +3,35 @@ ghost use Rattle.std.specs.Prelude.{◌≡◌, [], ◌∷◌, ◌++◌, ◌+◌,
 ghost use Rattle.report.specs.Writing.{Wrote};
 ghost use Rattle.tokens.specs.Laid.{spelled};
 ghost use Rattle.syntax.specs.Printer.{called, part_name, variable_said, line, or_line, unless_plain};
-ghost use Rattle.printing.specs.Pieces.{reach_of, Bounded, test_text, call_text, binders_text, empty_text, front_text, first_text, rest_text};
+ghost use Rattle.printing.specs.Pieces.{is_sent, reach_of, Bounded, test_text, call_text, binders_text, empty_text, front_text, first_text, rest_text};
 ghost use Rattle.printing.specs.Pieces.{each_text, with_text};
 
 use report::{byte, bytes, decimal, place};
 
-/// How far names reach, and how deep a line stands: the number of variables in scope, whether the first is what was sent, and the blanks before
-/// a line.
+/// The name of the first variable in scope: `a`; or `sent` in a default, where it is what was sent.
+#[derive(Clone, Copy, Debug, PartialEq, Eq)]
+pub enum First {
+    A,
+    Sent,
+}
+
+/// How far names reach, and how deep a line stands: the number of variables in scope, the name of the first, and the blanks before a line.
 #[derive(Clone, Copy, Debug, PartialEq, Eq)]
 pub struct Scope {
     pub count: usize,
-    pub sent: bool,
+    pub first: First,
     pub indent: usize,
 }
 
-/// The name of variable x, where the first is what was sent or not.
-pub fn name(sent: bool, x: usize, out: &mut [u8], at: usize) -> usize
-    ensures { Wrote (called sent x) at out.old out.new result }
+/// The name of variable x, where this is the first one's.
+pub fn name(first: First, x: usize, out: &mut [u8], at: usize) -> usize
+    ensures { Wrote (called (is_sent first) x) at out.old out.new result }
 {
     if x == 0 {
-        if sent {
-            return bytes(out, at, b"sent");
-        }
-        return byte(out, at, b'a');
+        return match first {
+            First::A => byte(out, at, b'a'),
+            First::Sent => bytes(out, at, b"sent"),
+        };
     }
     let end = byte(out, at, 97 + (x % 26) as u8);
     if x < 26 {
@@ -39,7 +45,7 @@ pub fn variable(scope: Scope, x: usize, out: &mut [u8], at: usize) -> usize
     ensures { Wrote (spelled (variable_said (reach_of scope) x)) at out.old out.new result }
 {
     if x < scope.count {
-        return name(scope.sent, x, out, at);
+        return name(scope.first, x, out, at);
     }
     let end = byte(out, at, b'#');
     decimal(out, end, x)
@@ -57,13 +63,11 @@ pub fn part(i: usize, out: &mut [u8], at: usize) -> usize
 pub fn blanks(n: usize, out: &mut [u8], at: usize) -> usize
     ensures { Wrote (replicate n 32) at out.old out.new result }
 {
-    let mut end = place(out, at);
-    let mut i = 0;
-    while i < n {
-        end = byte(out, end, b' ');
-        i += 1;
-    }
-    end
+    let start = place(out, at);
+    let room = out.len() - start;
+    let count = n.min(room);
+    out[start..start + count].fill(b' ');
+    start + count
 }
 
 /// A new line, indented by so many blanks, but at most 32.
@@ -71,11 +75,10 @@ pub fn line(indent: usize, out: &mut [u8], at: usize) -> usize
     ensures { Wrote (line indent) at out.old out.new result }
 {
     let end = byte(out, at, b'\n');
-    if indent < 32 {
-        return blanks(indent, out, end);
-    }
-    blanks(32, out, end)
+    blanks(indent.min(32), out, end)
 }
+
+// `plain` below is the mark of a node as it stands in the table of marks: an enum of two layouts would be made of it at each call, and is no plainer.
 
 /// The blanks before what stands on the same line, or a new line.
 pub fn or_line(plain: bool, gap: &[u8], indent: usize, out: &mut [u8], at: usize) -> usize
@@ -121,25 +124,15 @@ pub fn comma(plain: bool, indent: usize, out: &mut [u8], at: usize) -> usize
 pub fn test(t: u8, out: &mut [u8], at: usize) -> usize
     ensures { Wrote (test_text t) at out.old out.new result }
 {
-    if t == 0 {
-        return place(out, at);
+    match t {
+        0 => place(out, at),
+        1 => bytes(out, at, b" with empty"),
+        2 => bytes(out, at, b" with members"),
+        3 => bytes(out, at, b" with false"),
+        4 => bytes(out, at, b" with true"),
+        5 => bytes(out, at, b" with one"),
+        _ => bytes(out, at, b" with many"),
     }
-    if t == 1 {
-        return bytes(out, at, b" with empty");
-    }
-    if t == 2 {
-        return bytes(out, at, b" with members");
-    }
-    if t == 3 {
-        return bytes(out, at, b" with false");
-    }
-    if t == 4 {
-        return bytes(out, at, b" with true");
-    }
-    if t == 5 {
-        return bytes(out, at, b" with one");
-    }
-    bytes(out, at, b" with many")
 }
 
 /// A call.
@@ -162,13 +155,13 @@ pub fn call(
 }
 
 /// How long the name of variable x is.
-pub fn name_length(sent: bool, x: usize) -> usize
+pub fn name_length(first: First, x: usize) -> usize
     requires { x < 2600 }
-    ensures value { result ≡ length (called sent x) }
+    ensures value { result ≡ length (called (is_sent first) x) }
     ensures upper_bound { result ≤ 4 }
 {
     let mut word = [0u8; 4];
-    name(sent, x, &mut word, 0)
+    name(first, x, &mut word, 0)
 }
 
 /// The two variables of a `let`, as far as the `=` and the blank behind it.
@@ -177,9 +170,9 @@ pub fn binders(scope: Scope, out: &mut [u8], at: usize) -> usize
     ensures { Wrote (binders_text (reach_of scope)) at out.old out.new result }
 {
     let mut end = bytes(out, at, b"let (");
-    end = name(scope.sent, scope.count, out, end);
+    end = name(scope.first, scope.count, out, end);
     end = bytes(out, end, b", ");
-    end = name(scope.sent, scope.count + 1, out, end);
+    end = name(scope.first, scope.count + 1, out, end);
     bytes(out, end, b") = ")
 }
 
@@ -188,8 +181,8 @@ pub fn empty_arrow(scope: Scope, out: &mut [u8], at: usize) -> usize
     requires { Bounded scope }
     ensures { Wrote (empty_text (reach_of scope) scope.indent) at out.old out.new result }
 {
-    let first = name_length(scope.sent, scope.count);
-    let rest = name_length(scope.sent, scope.count + 1);
+    let first = name_length(scope.first, scope.count);
+    let rest = name_length(scope.first, scope.count + 1);
     let mut end = bytes(out, at, b" of");
     end = line(scope.indent + 2, out, end);
     end = bytes(out, end, b"[]");
@@ -204,9 +197,9 @@ pub fn front_arrow(scope: Scope, out: &mut [u8], at: usize) -> usize
 {
     let mut end = line(scope.indent + 2, out, at);
     end = byte(out, end, b'[');
-    end = name(scope.sent, scope.count, out, end);
+    end = name(scope.first, scope.count, out, end);
     end = bytes(out, end, b" | ");
-    end = name(scope.sent, scope.count + 1, out, end);
+    end = name(scope.first, scope.count + 1, out, end);
     bytes(out, end, b"] ->")
 }
 
@@ -217,7 +210,7 @@ pub fn first_default(scope: Scope, out: &mut [u8], at: usize) -> usize
 {
     let mut end = line(scope.indent + 4, out, at);
     end = bytes(out, end, b"default ");
-    end = name(scope.sent, scope.count, out, end);
+    end = name(scope.first, scope.count, out, end);
     bytes(out, end, b" =")
 }
 
@@ -227,7 +220,7 @@ pub fn rest_default(scope: Scope, out: &mut [u8], at: usize) -> usize
     ensures { Wrote (rest_text (reach_of scope)) at out.old out.new result }
 {
     let mut end = bytes(out, at, b", ");
-    end = name(scope.sent, scope.count + 1, out, end);
+    end = name(scope.first, scope.count + 1, out, end);
     bytes(out, end, b" =")
 }
 

@@ -3,34 +3,29 @@ ghost use Rattle.std.specs.Prelude.{◌≡◌, [], ◌∷◌, ◌≤◌};
 ghost use Rattle.sheet.specs.Sheet.{Sheet};
 ghost use Rattle.sheet.specs.Laws.{Reads};
 ghost use Rattle.syntax.specs.Printer.{all_plain};
-ghost use Rattle.printing.specs.Flat.{flat_in, plain_of, bit_of, Flats};
+ghost use Rattle.printing.specs.Flat.{flat_in, plain_of, Flats};
 
 use crate::nodes::record_at;
 use node::Node;
 use sheet::Table;
 
 // Whether node n is marked as one.
-fn is_plain(plain: &[u8; 200], n: usize) -> bool
+#[tactic(auto, unfolding(crate::specs::Flat::flat_in))]
+fn is_plain(plain: &[bool; 200], n: usize) -> bool
     ensures { result ≡ flat_in plain.now n }
 {
-    if 200 <= n {
-        return false;
-    }
-    plain[n] == 1
+    plain.get(n).copied().unwrap_or(false)
 }
 
 // Whether both are.
-fn both_plain(plain: &[u8; 200], a: usize, b: usize) -> bool
+fn both_plain(plain: &[bool; 200], a: usize, b: usize) -> bool
     ensures { result ≡ all_plain (flat_in plain.now) (a ∷ b ∷ []) }
 {
-    if is_plain(plain, a) {
-        return is_plain(plain, b);
-    }
-    false
+    is_plain(plain, a) && is_plain(plain, b)
 }
 
 // Whether a node has no case in it, where those that it names are marked.
-fn plain_node(node: Node, plain: &[u8; 200]) -> bool
+fn plain_node(node: Node, plain: &[bool; 200]) -> bool
     ensures { result ≡ plain_of plain.now node }
 {
     match node {
@@ -55,24 +50,15 @@ fn plain_node(node: Node, plain: &[u8; 200]) -> bool
     }
 }
 
-// A mark.
-fn bit(b: bool) -> u8
-    ensures { result ≡ bit_of b }
-{
-    if b { 1 } else { 0 }
-}
-
-/// A mark, 1, for each node of a sheet that has no case in it: from the last to the first, so that those that a node names are judged before it.
-pub fn plain_nodes(sheet: &[u8], t: Table) -> [u8; 200]
+/// A mark for each node of a sheet that has no case in it: from the last to the first, so that those that a node names are judged before it.
+pub fn plain_nodes(sheet: &[u8], t: Table) -> [bool; 200]
     requires { t.nodes ≤ 200 }
     ensures { (sh : Sheet) → Reads sheet.now t sh → Flats sh 0 result }
 {
-    let mut plain = [0u8; 200];
-    let mut n = t.nodes;
-    while 0 < n {
-        n -= 1;
+    let mut plain = [false; 200];
+    for n in (0..t.nodes).rev() {
         let node = record_at(sheet, t.starts[n]);
-        plain[n] = bit(plain_node(node, &plain));
+        plain[n] = plain_node(node, &plain);
     }
     plain
 }

@@ -1,21 +1,22 @@
 -- Laws of records written anew: piece by piece; and that they are those of the sheet's nodes renumbered.
-use Rattle.std.specs.Prelude.{◌≡◌, length, get_or, set, take, replicate}
+use Rattle.std.specs.Prelude.{◌≡◌, cond, ltb, length, get_or, set, take, replicate}
 use Rattle.std.proofs.Math.Path.{refl, ap}
-use Rattle.std.proofs.Common.{sym, ◌∙◌, add-one, arith, Fits, lt-ltb}
+use Rattle.std.proofs.Common.{sym, ◌∙◌, add-one, arith, Fits, lt-ltb, le-ltb}
+use Rattle.std.proofs.Math.Decide.{dec_lt}
+use Rattle.std.proofs.Math.ListN.{get_or-eq_default}
 use mathlib.Core.List.{List, [], ◌∷◌, ◌++◌, map, append_assoc, append-nil}
 use Prim.Native.Nat.{ℕ, zero, suc, ◌+◌, ◌*◌, ◌-◌, ◌%◌, ◌≤◌, ◌<◌}
 use Rattle.std.proofs.lemmas.List.{set_at}
 use Rattle.std.specs.Int.{w8}
 use Rattle.report.specs.Writing.{Wrote, wrote_then, wrote_text}
 use Rattle.value.specs.Result.{ok}
-use Rattle.node.specs.declared.Node.{Node}
 use Rattle.node.specs.declared.Node.TheVariants.{False}
 use Rattle.sheet.specs.declared.Table.{Table}
 use Rattle.node.specs.Kinds.{children, calls, written}
 use Rattle.sheet.specs.Renumbering.{renumber}
 use Rattle.sheet.specs.Sheet.{Sheet, read_sheet}
 use Rattle.node.specs.Decoding.{kind_width}
-use Rattle.sheet.specs.Table.{table_of, section_at, first_node}
+use Rattle.sheet.specs.Table.{table_of, section_at}
 use Rattle.node.specs.Forms.{listing}
 use Rattle.sheet.specs.Reading.{Made}
 use Rattle.sheet.specs.Laws.{node_made, table_start, sheet_ranges}
@@ -32,6 +33,15 @@ use Rattle.records.specs.Anew.{shifted_by, within, chosen_of, new_node, new_sect
 pub within_in : (n : ℕ) (l : List ℕ) (i : ℕ) → i < n → within n l i ≡ get_or l i 0
 unfolding within
 within_in n l i h = rw (lt-ltb i n h)
+
+-- of a table that has all its entries
+pub within_whole : (n : ℕ) (l : List ℕ) (i : ℕ) → length l ≡ n → within n l i ≡ get_or l i 0
+unfolding within
+within_whole n l i e = go (dec_lt i n)
+  where
+    go : Dec (i < n) → cond (ltb i n) (get_or l i 0) 0 ≡ get_or l i 0
+    go (yes h) = rw (lt-ltb i n h)
+    go (no h) = rw (le-ltb i n (omega arith)) (sym (get_or-eq_default l 0 (omega arith)))
 
 pub listing_more : (n : ℕ) (h : ℕ → ℕ) → listing (suc n) h ≡ listing n h ++ h n ∷ []
 listing_more zero h = refl
@@ -131,13 +141,13 @@ module _ {s : List ℕ} {m : Anew} where
   unfolding roots_of
   rooted_none w = record { wrote = w }
 
-  pub rooted_more : {i n v at j k r : ℕ} {b b₁ b₂ b₃ : List ℕ} → Rooted s m i at b b₁ j → n ≡ section_at s i → n < 256 → v ≡ within 256 m.nodes n
-      → Wrote (0x20 ∷ []) j b₁ b₂ k → Wrote (v ∷ []) k b₂ b₃ r → Rooted s m (i + 1) at b b₃ r
+  pub rooted_more : {i n v at j r : ℕ} {b b₁ b₂ : List ℕ} → Rooted s m i at b b₁ j → n ≡ section_at s i → v ≡ new_node m n
+      → Wrote (0x20 ∷ v ∷ []) j b₁ b₂ r → Rooted s m (i + 1) at b b₂ r
   unfolding roots_of
-  rooted_more {i} {n} {v} u e z f w x = let root : ℕ → ℕ = λ j. new_node m (section_at s j) in record {
-    wrote = wrote_text (wrote_then u.wrote (wrote_then w x))
+  rooted_more {i} {v = v} u e f w = let root : ℕ → ℕ = λ j. new_node m (section_at s j) in record {
+    wrote = wrote_text (wrote_then u.wrote w)
         (sym (ap roots_of (ap (λ (k : ℕ). listing k root) (add-one i) ∙ listing_more i root) ∙ roots_append (listing i root) (root i ∷ [])
-        ∙ ap (λ (a : ℕ). roots_of (listing i root) ++ 0x20 ∷ a ∷ []) (sym (f ∙ within_in 256 m.nodes n z ∙ ap (new_node m) e))));
+        ∙ ap (λ (a : ℕ). roots_of (listing i root) ++ 0x20 ∷ a ∷ []) (sym (f ∙ ap (new_node m) e))));
   }
 
   pub rooted_all : {i n at r : ℕ} {b b' : List ℕ} → Rooted s m i at b b' r → i ≡ n → Wrote (sections_of s n m) at b b' r
@@ -218,10 +228,10 @@ pub record Renumbers (sh : Sheet) (m : Anew) (f g : ℕ → ℕ) (n : ℕ) : Typ
   pub nodes : Every (λ c. new_node m c ≡ f c) (children (get_or sh.nodes n False))
   pub sections : Every (λ c. new_section m c ≡ g c) (calls (get_or sh.nodes n False))
 
-module _ (s : List ℕ) {t : Table} {sh : Sheet} (table : t ≡ table_of (read_sheet s)) (read : read_sheet s ≡ ok sh) where
+module _ (s : List ℕ) {t : Table} {sh : Sheet} (table : t ≡ table_of sh) (read : read_sheet s ≡ ok sh) where
   pub made_there : (i : ℕ) → i < length sh.nodes → Made s (get_or t.starts i 0) (get_or sh.nodes i False)
   made_there i h =
-      rw (ap (λ (x : Table). get_or x.starts i 0) (table ∙ ap table_of read) ∙ table_start sh i h) (node_made s read i h)
+      rw (ap (λ (x : Table). get_or x.starts i 0) table ∙ table_start sh i h) (node_made s read i h)
 
   module _ (small : Bytes s) (m : Anew) (f g : ℕ → ℕ) where
     record_is : (n : ℕ) → n < 200 → Renumbers sh m f g n → record_of s (within 200 t.starts n) m ≡ written (renumber f g (get_or sh.nodes n False))

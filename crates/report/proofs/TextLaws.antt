@@ -1,9 +1,10 @@
 -- What is written reads back: a byte is its two digits, and decimal text is its number. How long text is, and how it grows.
-use Rattle.std.specs.Prelude.{cond, ◌≡◌, refl, List, [], ◌∷◌, ◌++◌, map, ℕ, zero, suc, ◌+◌, ◌-◌, ◌*◌, ◌/◌, ◌%◌, ◌^◌, ◌≤◌, ◌<◌, ltb, length, take, get_or}
-use Rattle.std.proofs.Common.{sym, ◌∙◌, append-nil, append_assoc, zero-le, pow-suc, add-one, arith, lt-ltb, le-ltb, length-append, take-suc}
-use Rattle.std.proofs.Math.Decide.{dec_lt}
+use Rattle.std.specs.Prelude.{cond, ◌≡◌, refl, List, [], ◌∷◌, ◌++◌, map, ℕ, zero, suc, ◌+◌, ◌-◌, ◌*◌, ◌/◌, ◌%◌, ◌^◌, ◌≤◌, ◌<◌, min, ltb, length, take, drop, get_or}
+use Rattle.std.proofs.Common.{sym, ◌∙◌, append-nil, append_assoc, zero-le, pow-suc, add-one, arith, lt-ltb, le-ltb, length-append, length-take-le, take-append-drop, drop_of_length-le, take-suc}
+use Rattle.std.proofs.Math.Decide.{dec_le, dec_lt}
+use Rattle.std.proofs.lemmas.List.Edits.{sets-eq}
 use Rattle.report.specs.Text.{digit_of, hex_of, decimal_in, decimal_of, words, refusal_line, ok_line, success_line}
-use Rattle.report.specs.Writing.{Wrote, wrote_then, wrote_text}
+use Rattle.report.specs.Writing.{Wrote, wrote, sets_out, wrote_then, wrote_long, wrote_text}
 
 -- DIGITS
 
@@ -125,6 +126,33 @@ decimal_length = by_digits (λ n. (k : ℕ) → n < 10 ^ suc k → length (decim
         → length (decimal_of (n / 10)) + 1 ≤ suc k
     more n s r zero h = absurd (omega arith)
     more n s r (suc k) h = omega (arith, r k (omega (arith, pow-suc 10 (suc k))))
+
+-- BYTES, of which as many are copied as have room
+
+-- nothing more is written at the buffer's end
+wrote_beyond : (t b : List ℕ) (r : ℕ) → r ≡ length b → Wrote t r b b r
+wrote_beyond t b r e = wrote (sym (sets_out t b r (omega arith))) (omega arith)
+
+wrote_none : (b : List ℕ) (r : ℕ) → r ≤ length b → Wrote [] r b b r
+wrote_none b r h = wrote refl (omega arith)
+
+wrote_whole : (t b : List ℕ) (p : ℕ) → p + length t ≤ length b → Wrote t p b (take p b ++ (t ++ drop (p + length t) b)) (p + length t)
+wrote_whole t b p h = wrote (sym (sets-eq t b p h ∙ append_assoc (take p b) t (drop (p + length t) b))) (omega arith)
+
+pub wrote_room : (t b : List ℕ) {i p n : ℕ} → Wrote [] i b b p → n ≡ min (length t) (length b - p)
+    → Wrote t i b (take p b ++ (take n t ++ drop (p + n) b)) (p + n)
+wrote_room t b {i} {p} {n} w e =
+    let h : p ≤ length b = w.inside in
+    let k : length (take n t) ≡ n = length-take-le n t (omega arith) in
+    let b' : List ℕ = take p b ++ (take n t ++ drop (p + n) b) in
+    let v = wrote_whole (take n t) b p (omega arith) in
+    let u : Wrote (take n t) p b b' (p + n) = rw k at v in
+    let l : length b' ≡ length b = wrote_long u in
+    wrote_text (wrote_then w (wrote_then u (behind b' l (dec_le (length t) n)))) (take-append-drop n t)
+  where
+    behind : (b' : List ℕ) → length b' ≡ length b → Dec (length t ≤ n) → Wrote (drop n t) (p + n) b' b' (p + n)
+    behind b' l (yes a) = rw (drop_of_length-le t a) (wrote_none b' (p + n) (omega (arith, w.inside)))
+    behind b' l (no a) = wrote_beyond (drop n t) b' (p + n) (omega (arith, w.inside))
 
 -- WORDS
 

@@ -26,7 +26,7 @@ wrote_cut {i} {v} {b} h = wrote (sym (set_out b i v h)) (omega arith)
 
 -- ONE TEXT BEHIND ANOTHER
 
-sets_out : (t b : List ℕ) (i : ℕ) → length b ≤ i → sets b i t ≡ b
+pub sets_out : (t b : List ℕ) (i : ℕ) → length b ≤ i → sets b i t ≡ b
 sets_out [] b i h = refl
 sets_out (v ∷ t) b i h = sets_out t (set b i v) (suc i) (rw length-set (omega arith)) ∙ set_out b i v h
 

@@ -8,6 +8,7 @@ ghost use Rattle.report.specs.Text.{digit_of, hex_of, decimal_of, words, refusal
 ghost use Rattle.report.specs.Writing.{Wrote};
 
 // An upper-case hexadecimal digit.
+#[tactic(auto, unfolding(crate::specs::Text::digit_of))]
 fn digit(n: u8) -> u8
     requires { n < 16 }
     ensures { result ≡ digit_of n }
@@ -19,7 +20,7 @@ fn digit(n: u8) -> u8
 pub fn place(text: &[u8], at: usize) -> usize
     ensures { Wrote [] at text.now text.now result }
 {
-    if at < text.len() { at } else { text.len() }
+    at.min(text.len())
 }
 
 /// One byte.
@@ -37,13 +38,11 @@ pub fn byte(text: &mut [u8], at: usize, b: u8) -> usize
 pub fn bytes(text: &mut [u8], at: usize, bytes: &[u8]) -> usize
     ensures { Wrote bytes.now at text.old text.new result }
 {
-    let mut end = place(text, at);
-    let mut i = 0;
-    while i < bytes.len() {
-        end = byte(text, end, bytes[i]);
-        i += 1;
-    }
-    end
+    let start = place(text, at);
+    let room = text.len() - start;
+    let count = bytes.len().min(room);
+    text[start..start + count].copy_from_slice(&bytes[..count]);
+    start + count
 }
 
 // A byte in upper-case hexadecimal.
@@ -59,10 +58,8 @@ pub fn hex(text: &mut [u8], at: usize, bytes: &[u8]) -> usize
     ensures { Wrote (hex_of bytes.now) at text.old text.new result }
 {
     let mut end = place(text, at);
-    let mut i = 0;
-    while i < bytes.len() {
-        end = hex_byte(text, end, bytes[i]);
-        i += 1;
+    for b in bytes {
+        end = hex_byte(text, end, *b);
     }
     end
 }

@@ -1,21 +1,20 @@
 -- Laws of the parts of a record: they are those of the table of kinds, the nodes named are the node's children, and the bytes under other
 -- numbers are those of the node renumbered.
-use Rattle.std.specs.Prelude.{◌≡◌, Bool, true, false, cond, ◌&&◌, eqb, leb, ltb, length, set, replicate}
+use Rattle.std.specs.Prelude.{◌≡◌, Bool, true, false, cond, ◌&&◌, eqb, ltb, length, set, replicate}
 use Rattle.std.proofs.Math.Path.{refl, sym, ap, fun_ext}
-use Rattle.std.proofs.Common.{◌∙◌, inl, inr, add-one, arith, length-append, get_or-append-add, leb-true, eqb-true, lt-ltb}
+use Rattle.std.proofs.Common.{◌∙◌, add-one, arith, length-append, get_or-append-add, eqb-true, lt-ltb}
 use Rattle.std.proofs.Math.Option.{Option, none, some}
 use mathlib.Core.List.{List, [], ◌∷◌, ◌++◌, map, append_assoc, append-nil}
 use Prim.Native.Nat.{ℕ, zero, suc, ◌+◌, ◌*◌, ◌/◌, ◌%◌, ◌^◌, ◌-◌, ◌≤◌, ◌<◌}
 use Rattle.std.proofs.Math.Decide.{ℕ_discrete}
-use Rattle.std.proofs.Math.ListN.{get_or, get_or-append, get_or-eq_default}
-use Rattle.std.proofs.lemmas.List.{length-replicate}
+use Rattle.std.proofs.Math.ListN.{get_or, get_or-eq_default}
 use Rattle.std.proofs.Math.Seq.{set-append_seam}
-use Rattle.node.specs.Kinds.{Role, a_node, a_section, a_variable, a_test, a_number, a_wide, Field, Row, row, Form, forms, past, form_of, made, roles_of}
-use Rattle.node.specs.Kinds.{value_of, values_of, size, sizes, bytes_of, body_bytes, body_width, make, width, written, keep, pick, children}
+use Rattle.node.specs.Kinds.{Role, a_node, a_section, a_variable, a_test, a_number, a_wide, Row, row, Form, forms, form_of, roles_of}
+use Rattle.node.specs.Kinds.{values_of, size, sizes, body_bytes, body_width, make, written, keep, pick, children}
 use Rattle.node.specs.Kinds.{◌is◌}
 use Rattle.sheet.specs.Renumbering.{field_anew, renumber}
 use Rattle.node.specs.Decoding.{kind_width, form_width}
-use Rattle.node.specs.Forms.{listing, fields_of, Told, form_told, no_form, row_made, length_values, wide_form}
+use Rattle.node.specs.Forms.{listing, fields_of, form_told, row_made, length_values}
 use Rattle.sheet.specs.Reading.{Made}
 use Rattle.sheet.proofs.Rows.{row_renumbered}
 use Rattle.sheet.proofs.Written.{Bytes, byte_small, role_back}

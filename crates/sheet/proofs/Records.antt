@@ -2,15 +2,14 @@
 use Rattle.std.specs.Prelude.{◌≡◌, List}
 use Rattle.std.proofs.Common.{sym, ◌∙◌}
 use Rattle.std.proofs.Math.Path.{ap}
-use Rattle.std.proofs.Math.Option.{Option, none, some}
+use Rattle.std.proofs.Math.Option.{Option, some}
 use Prim.Native.Nat.{ℕ, suc, ◌+◌}
 use Rattle.std.proofs.Math.ListN.{get_or}
-use Rattle.node.specs.Kinds.{Form, ◌is◌, row, made, roles_of, values_of, form_at, form_of, make}
+use Rattle.node.specs.Kinds.{Form, ◌is◌, row, roles_of, values_of, form_of, make}
 use Rattle.node.specs.Forms.{fields_of, form_told, row_made, length_values}
 use Rattle.sheet.specs.Reading.{Made}
 use Rattle.sheet.specs.Records.{of_bytes, record_at}
 use Rattle.node.specs.declared.Node.{Node}
-use Rattle.node.specs.declared.Node.TheVariants.{False}
 
 -- its row: the fields of the form, with the bytes' values
 pub record_row : (k : ℕ) (s : List ℕ) (n : ℕ) {f : Form} → form_of k ≡ some f

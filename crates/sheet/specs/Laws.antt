@@ -1,5 +1,5 @@
 -- Laws of a sheet that was read, for callers: where its records stand, the range of each number, and what the table tells.
-use Rattle.std.specs.Prelude.{◌≡◌, Bool, true, false, ◌&&◌, leb, ltb, length, get_or, replicate}
+use Rattle.std.specs.Prelude.{◌≡◌, true, leb, ltb, length, get_or, replicate}
 use Rattle.std.proofs.Math.Path.{refl}
 use Rattle.std.proofs.Common.{ap, ◌∙◌, zero-add, leb-true, ltb-true, inl, inr}
 use mathlib.Core.List.{List, [], ◌∷◌}
@@ -7,18 +7,18 @@ use Prim.Native.Nat.{ℕ, zero, suc, ◌+◌, ◌*◌, ◌-◌, ◌≤◌, ◌<�
 use Rattle.std.proofs.Math.Nat.{add-zero}
 use native.Mathlib.Omega.{arith}
 use Rattle.std.proofs.Math.ListN.{get_or-append}
-use Rattle.value.specs.Result.{Result, ok, refusal, map_result}
+use Rattle.value.specs.Result.{ok, refusal, map_result}
 use Rattle.value.proofs.Numbered.{Answered, numbered_ok, numbered_err}
 use Rattle.value.proofs.Laws.{and-true}
-use Rattle.std.proofs.Math.Option.{none, some}
+use Rattle.std.proofs.Math.Option.{none}
 use Rattle.std.proofs.Math.Decide.{dec_lt}
 use Rattle.node.specs.Forms.{no_form}
 use Rattle.sheet.specs.Sheet.{Sheet, nodes_in_range, roots_in_range, in_range, read_sheet}
-use Rattle.node.specs.Kinds.{Role, a_node, a_section, a_variable, a_test, a_number, a_wide, Field, row, Form, past}
-use Rattle.node.specs.Kinds.{form_of, make, width, fits, all_fit, node_in_range}
+use Rattle.node.specs.Kinds.{Role, a_node, a_section, a_variable, a_test, a_number, a_wide, Field, row, past}
+use Rattle.node.specs.Kinds.{form_of, width, fits, all_fit, node_in_range}
 use Rattle.node.specs.Decoding.{node_at}
 use Rattle.sheet.specs.Table.{offsets, first_node, section_at, table_of}
-use Rattle.sheet.specs.Reading.{Fine, fine, refused, fine_ok, Made, placed_at, made_at, rooted_at, HeaderRead, SheetRead, sheet_fine}
+use Rattle.sheet.specs.Reading.{fine_ok, Made, placed_at, made_at, rooted_at, HeaderRead, SheetRead, sheet_fine}
 use Rattle.node.specs.declared.Node.{Node}
 use Rattle.sheet.specs.declared.Table.{Table}
 use Rattle.node.specs.declared.Node.TheVariants.{False}

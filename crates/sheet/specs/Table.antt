@@ -1,5 +1,5 @@
 -- What the sheet reader answers: a table of where each node's record starts, and a section's root.
-use Rattle.std.specs.Prelude.{◌≡◌, Bool, List, [], ◌∷◌, ◌++◌, ℕ, suc, ◌+◌, ◌*◌, ◌-◌, ◌<◌, length, get_or, drop, replicate}
+use Rattle.std.specs.Prelude.{◌≡◌, Bool, List, [], ◌∷◌, ◌++◌, ℕ, ◌+◌, ◌*◌, ◌-◌, ◌<◌, length, get_or, drop, replicate}
 use Rattle.value.specs.Result.{Result, ok, and_then, map_result}
 use Rattle.sheet.specs.Sheet.{Sheet, read_nodes, with_nodes, roots_in_range, nodes_in_range, in_range, read_header}
 use Rattle.node.specs.Kinds.{width}

@@ -12,7 +12,7 @@ use node::{byte_of, record_in_range, record_width};
 use refusal::Refusal;
 
 /// What reading a sheet gives: how many variables its plan has, its root node, how many sections and nodes it has, and the byte where each
-/// node's record starts, in file order, with zeros behind.
+/// node's record starts, in file order, with zeros behind. It is an array with a count, since the core has no heap.
 #[derive(Clone, Copy, Debug, PartialEq, Eq)]
 pub struct Table {
     pub k: usize,
@@ -59,10 +59,11 @@ pub fn part(kind: u8, i: u16) -> u8
         return 0;
     }
     let parts = PARTS[usize::from(kind) - 0x10];
-    ((parts >> (4 * (i as u32))) % 16) as u8
+    ((parts >> (4 * u32::from(i))) % 16) as u8
 }
 
-/// The nodes that a record names, in body order: `count` numbers, at the front of `nodes`, with zeros behind them.
+/// The nodes that a record names, in body order: `count` numbers, at the front of `nodes`, with zeros behind them. It is an array with a count,
+/// since the core has no heap.
 #[derive(Clone, Copy, Debug, PartialEq, Eq)]
 pub struct Children {
     pub count: usize,
@@ -70,6 +71,7 @@ pub struct Children {
 }
 
 // With one byte more of a record, where that is a node's number.
+#[tactic(auto, unfolding(crate::specs::Parts::with_node))]
 fn with_node(c: Children, part: u8, b: u8) -> Children
     ensures { result ≡ with_node c part b }
 {
@@ -98,15 +100,15 @@ pub fn children_at(s: &[u8], at: u16) -> Children
         count: 0,
         nodes: [0; 8],
     };
-    let mut i: u16 = 0;
-    while (i as usize) < width {
+    for i in 0..width as u16 {
         c = with_node(c, part(kind, i), byte_of(s, at, i));
-        i += 1;
     }
     c
 }
 
-/// The root of section `i`; 0 where the sheet ends before it.
+/// The root of section `i`; 0 where the sheet ends before it. It is 0 and no `None`, since callers ask for sections of a sheet that was read, and
+/// those are there.
+#[tactic(auto, unfolding(crate::specs::Table::section_at))]
 pub fn section_root(s: &[u8], i: usize) -> usize
     ensures { result ≡ section_at s.now i }
 {
@@ -128,6 +130,7 @@ fn read_nodes(s: &[u8], k: usize, root: usize, sections: usize) -> Result<Table,
     let mut starts = [0u16; 200];
     let mut n: usize = 0;
     let mut at = 3 + 2 * sections;
+    // no `for`: where the next record begins comes from the one read
     while at < s.len() {
         let width = record_width(s[at]);
         if width == 0 {
@@ -164,6 +167,7 @@ fn read_sections(s: &[u8]) -> Result<Table, Refusal>
     let root = usize::from(s[2]);
     let mut n: usize = 0;
     let mut at: usize = 3;
+    // no `for`: the first byte of the next record says whether it is a section's
     while at < s.len() {
         if s[at] != 0x20 {
             return read_nodes(s, k, root, n);
@@ -200,12 +204,10 @@ fn read_records(s: &[u8]) -> Result<Table, Refusal>
 fn roots_in_range(s: &[u8], sections: usize, nodes: usize) -> bool
     ensures { RootsJudged s.now sections nodes result }
 {
-    let mut i: usize = 0;
-    while i < sections {
+    for i in 0..sections {
         if nodes <= section_root(s, i) {
             return false;
         }
-        i += 1;
     }
     true
 }
@@ -215,15 +217,10 @@ fn nodes_in_range(s: &[u8], t: Table) -> bool
     requires { t.nodes ≤ 200 }
     ensures { NodesJudged s.now t result }
 {
-    let nodes = t.nodes;
-    let sections = t.sections;
-    let mut i: usize = 0;
-    while i < nodes {
-        let at = t.starts[i] as usize;
-        if !record_in_range(s, at, i, nodes, sections) {
+    for i in 0..t.nodes {
+        if !record_in_range(s, usize::from(t.starts[i]), i, t.nodes, t.sections) {
             return false;
         }
-        i += 1;
     }
     true
 }

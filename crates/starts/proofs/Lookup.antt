@@ -8,7 +8,7 @@ use Rattle.std.proofs.Math.Numerals.{add-one}
 use borrow.Author.Tests.{ltb-true, leb-true, eqb-true, lt-ltb, le-ltb, le-leb, lt-leb, eq-eqb, ne_eqb}
 use Rattle.std.proofs.Math.ListN.{length, get_or-append}
 use Rattle.std.proofs.Math.Seq.{drop-length}
-use Rattle.std.proofs.lemmas.List.{get_or_at}
+use Rattle.std.proofs.lemmas.List.{get_or_at, length-take, get_or-take}
 use Rattle.starts.specs.declared.Starts.{Starts}
 use Rattle.starts.specs.declared.Place.{Place}
 use Rattle.value.specs.Result.{Result, ok, refusal}
@@ -98,6 +98,13 @@ module _ (s : Starts) (n : ℕ) where
     judged_all h =
         let e : i ≡ length (numbers s) = omega (arith, j.within, length-firsts s.count s.at) in
         sym (j.left ∙ rw (e, drop-length (numbers s)))
+
+-- the numbers as the code takes them
+pub item_at : (n : ℕ) (l : List ℕ) (i : ℕ) {c : ℕ} → n ≡ c → i < length (take n l) → (i < c) × (get_or (take n l) i 0 ≡ get_or l i 0)
+item_at n l i e h = let k : i < n = omega (arith, length-take n l) in (omega arith, get_or-take n l i 0 k)
+
+pub items_all : (n : ℕ) (l : List ℕ) (i : ℕ) {c : ℕ} → n ≡ c → c ≤ length l → length (take n l) ≤ i → c ≤ i
+items_all n l i e f h = omega (arith, length-take n l)
 
 -- WHAT PROPER STARTS ARE
 

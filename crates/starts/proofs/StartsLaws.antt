@@ -19,7 +19,6 @@ use Rattle.sheet.specs.Table.{table_of}
 use Rattle.sheet.specs.Laws.{Reads, sheet_ranges, table_reads, table_refused}
 use Rattle.sheet.specs.declared.Table.{Table}
 use Rattle.starts.specs.declared.Starts.{Starts}
-use Rattle.starts.specs.declared.Place.{Place}
 use Rattle.starts.specs.Starts.{no_starts, starts_of, load_of, starts_in, numbers, find_of, part_of}
 use Rattle.starts.proofs.Lookup.{firsts_at, firsts_all, Rising, end, over, Proper, proper_so, find_23, find_at, part_found}
 

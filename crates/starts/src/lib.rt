@@ -9,7 +9,7 @@ ghost use Rattle.starts.specs.NewPlan.{plan_of, grown_by};
 use refusal::Refusal;
 
 /// Where each value of a plan starts: `count` numbers, at the front of `at`. Those that this program gives have zeros behind them; those
-/// that a caller kept may be any numbers, and `find` judges them.
+/// that a caller kept may be any numbers, and `find` judges them. It is an array with a count, since C lends it so.
 #[derive(Clone, Copy, Debug, PartialEq, Eq)]
 pub struct Starts {
     pub count: u8,
@@ -31,6 +31,7 @@ pub struct NewPlan {
 }
 
 /// No start: what stands where a call is refused.
+#[tactic(auto, unfolding(crate::specs::Starts::no_starts))]
 pub fn none() -> Starts
     ensures { result ≡ no_starts }
 {
@@ -65,9 +66,8 @@ fn is_proper(starts: Starts, len: usize) -> bool
         return false;
     }
     let mut low = 0;
-    let mut i = 0;
-    while i < starts.count as usize {
-        let start = starts.at[i] as usize;
+    for start in &starts.at[..usize::from(starts.count)] {
+        let start = usize::from(*start);
         if start < low {
             return false;
         }
@@ -75,7 +75,6 @@ fn is_proper(starts: Starts, len: usize) -> bool
             return false;
         }
         low = start + 1;
-        i += 1;
     }
     true
 }
@@ -88,19 +87,19 @@ pub fn find(starts: Starts, len: usize, variable: usize) -> Result<Place, Refusa
     if !is_proper(starts, len) {
         return Err(Refusal::Starts);
     }
-    let count = starts.count as usize;
+    let count = usize::from(starts.count);
     if count <= variable {
         return Err(Refusal::Variable);
     }
-    let start = starts.at[variable] as usize;
+    let start = usize::from(starts.at[variable]);
     if variable + 1 == count {
         return Ok(Place { start, end: len });
     }
-    let end = starts.at[variable + 1] as usize;
+    let end = usize::from(starts.at[variable + 1]);
     Ok(Place { start, end })
 }
 
-/// The value of a variable, as the part of the plan's own bytes; the empty part, which no value is, where `find` refuses.
+/// The value of a variable, as the part of the plan's own bytes; the empty part, which no value is, where `find` refuses. `find` tells which refusal.
 pub fn part(starts: Starts, plan: &[u8], variable: usize) -> &[u8]
     ensures { result.now ≡ part_of (find_of starts (length plan.now) variable) plan.now }
 {
@@ -111,7 +110,9 @@ pub fn part(starts: Starts, plan: &[u8], variable: usize) -> &[u8]
 }
 
 /// A plan that has `count` values gets one of n bytes more, which starts at byte `start`, where the others end. Its start is written to `at`, and the
-/// answer is where it ends. Nothing changes, and the answer is `start`, where there are 16 values, or would be over 65,535 bytes.
+/// answer is where it ends. Nothing changes, and the answer is `start`, where there are 16 values, or would be over 65,535 bytes; it is no `None`,
+/// since the one caller has fewer of both, and goes on with where its next value starts.
+#[tactic(auto, unfolding(crate::specs::NewPlan::grown_by))]
 pub fn grow(at: &mut [u16; 16], count: usize, start: usize, n: usize) -> usize
     ensures value { result ≡ (grown_by (plan_of count at.old start) n).len }
     ensures at_after { at.new ≡ (grown_by (plan_of count at.old start) n).starts.at }

@@ -55,7 +55,7 @@ pub fn hand_reading(reading: Reading, place: &mut usize) -> u64
             detail,
         } => {
             *place = at;
-            pack_told(refusal, detail as u16)
+            pack_told(refusal, u16::from(detail))
         }
     }
 }

@@ -13,8 +13,7 @@ use Rattle.rules.proofs.Laws.Answers.{put_shows}
 use Rattle.undo.specs.Straight.{Straight}
 use Rattle.undo.proofs.Calls.{undo}
 use Rattle.calls.specs.Reply.{Reply, Done, Refused}
-use Rattle.together.specs.declared.Trip.{Trip}
-use Rattle.together.specs.declared.Trip.TheVariants.{Kept, Stopped, Broken}
+use Rattle.together.specs.Trip.{Trip, Kept, Stopped, Broken}
 use Rattle.buffers.specs.Buffers.{zeroed}
 use Rattle.calls.specs.Calls.{reply, written, cleared, Answered}
 use Rattle.calls.specs.Trips.{success_of}

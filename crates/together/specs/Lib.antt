@@ -1,2 +1,3 @@
+pub mod Trip
 pub mod RoundTrips
 pub mod Undone

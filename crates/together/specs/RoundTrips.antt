@@ -11,8 +11,7 @@ use Rattle.shapes.proofs.PartsLaws.{same_refl}
 use Rattle.rules.specs.Numbers.{allowance_limit, factor, scratch_size, get_output, put_output}
 use Rattle.rules.specs.Answer.{Answer, refusal, success, get_answer, put_answer}
 use Rattle.calls.specs.Reply.{Reply, Done, Refused}
-use Rattle.together.specs.declared.Trip.{Trip}
-use Rattle.together.specs.declared.Trip.TheVariants.{Kept, Stopped, Broken}
+use Rattle.together.specs.Trip.{Trip, Kept, Stopped, Broken}
 use Rattle.buffers.specs.Buffers.{zeros, zeroed}
 use Rattle.calls.specs.Calls.{reply, written, cleared, after_refusal, Answered}
 use Rattle.calls.specs.Trips.{success_of}

@@ -9,8 +9,7 @@ use Rattle.rules.specs.Numbers.{put_output}
 use Rattle.rules.specs.Answer.{Answer, refusal, success, put_answer}
 use Rattle.undo.specs.Straight.{Straight}
 use Rattle.calls.specs.Reply.{Reply, Done, Refused}
-use Rattle.together.specs.declared.Trip.{Trip}
-use Rattle.together.specs.declared.Trip.TheVariants.{Kept, Stopped, Broken}
+use Rattle.together.specs.Trip.{Trip, Kept, Stopped, Broken}
 use Rattle.calls.specs.Calls.{written, cleared}
 use Rattle.together.specs.RoundTrips.{second_writes, if_both}
 

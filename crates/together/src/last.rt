@@ -1,21 +1,24 @@
 //! The last of three calls, judged.
 ghost use Rattle.std.specs.Prelude.{◌≡◌};
+ghost use Rattle.calls.specs.Reply.{told};
+ghost use Rattle.together.specs.Trip.{trip_of};
 ghost use Rattle.together.specs.Undone.{replied};
 
-use crate::{Trip, front};
-use calls::Reply;
+use crate::Trip;
+use calls::{Done, Reply};
 
 /// What the last call makes of an edit that took `first` steps: kept where it gives these very bytes in as many.
 pub fn returned(first: usize, reply: Reply, out: &[u8], plan: &[u8]) -> Trip
-    ensures { result ≡ replied first reply out.now plan.now }
+    ensures { trip_of result ≡ replied first (told reply) out.now plan.now }
 {
     match reply {
-        Reply::Refused(c) => Trip::Stopped(c),
-        Reply::Done { len, steps } => {
+        Err(refusal) => Trip::Stopped(refusal),
+        Ok(Done { len, steps }) => {
             if steps != first {
                 return Trip::Broken;
             }
-            if shapes::same(front(out, len), plan) {
+            let front = &out[..len.min(out.len())];
+            if shapes::same(front, plan) {
                 return Trip::Kept {
                     first,
                     second: steps,

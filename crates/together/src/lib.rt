@@ -1,12 +1,11 @@
 //! What calls one after the other answer together, and how the last of them is judged.
 #![tactic(auto)]
 
-ghost use Rattle.std.specs.Prelude.{◌≡◌, take};
-
 mod last;
 mod second;
 
 pub use last::returned;
+use refusal::Refusal;
 pub use second::judged;
 
 /// What calls one after the other answer: the steps of two of them, or a refusal of one. The third case is there to be ruled
@@ -15,16 +14,6 @@ pub use second::judged;
 #[derive(Clone, Copy, Debug, PartialEq, Eq)]
 pub enum Trip {
     Kept { first: usize, second: usize },
-    Stopped(u8),
+    Stopped(Refusal),
     Broken,
-}
-
-// The first n bytes, as far as there are so many.
-fn front(bytes: &[u8], n: usize) -> &[u8]
-    ensures { result.now ≡ take n bytes.now }
-{
-    if n < bytes.len() {
-        return &bytes[..n];
-    }
-    bytes
 }

@@ -1,21 +1,24 @@
 //! The second of two calls, judged.
 ghost use Rattle.std.specs.Prelude.{◌≡◌};
+ghost use Rattle.calls.specs.Reply.{told};
+ghost use Rattle.together.specs.Trip.{trip_of};
 ghost use Rattle.together.specs.RoundTrips.{verdict};
 
-use crate::{Trip, front};
-use calls::Reply;
+use crate::Trip;
+use calls::{Done, Reply};
 
 /// What the second call makes of a first one of `first` steps: kept where it gives these very bytes in at most `most` steps.
 pub fn judged(first: usize, reply: Reply, most: usize, out: &[u8], bytes: &[u8]) -> Trip
-    ensures { result ≡ verdict first reply most out.now bytes.now }
+    ensures { trip_of result ≡ verdict first (told reply) most out.now bytes.now }
 {
     match reply {
-        Reply::Refused(_) => Trip::Broken,
-        Reply::Done { len, steps } => {
+        Err(_) => Trip::Broken,
+        Ok(Done { len, steps }) => {
             if most < steps {
                 return Trip::Broken;
             }
-            if shapes::same(front(out, len), bytes) {
+            let front = &out[..len.min(out.len())];
+            if shapes::same(front, bytes) {
                 return Trip::Kept {
                     first,
                     second: steps,

@@ -6,10 +6,10 @@ use Rattle.rules.specs.Answer.{success, get_answer, put_answer}
 use Rattle.rules.proofs.Laws.Answers.{get_shows, put_shows, get_steps, put_steps}
 use Rattle.rules.proofs.Laws.Trips.{consistency, acceptability}
 use Rattle.calls.specs.Reply.{Reply, Done, Refused}
-use Rattle.together.specs.declared.Trip.{Trip}
-use Rattle.together.specs.declared.Trip.TheVariants.{Stopped}
+use Rattle.together.specs.Trip.{Trip, Stopped}
 use Rattle.calls.specs.Calls.{Answered}
-use Rattle.arena.specs.Door.{shut, door_lent}
+use Rattle.arena.specs.Door.{shut}
+use Rattle.rules.specs.Laws.Answers.{DoorOpens}
 use Rattle.calls.specs.Trips.{success_of}
 use Rattle.calls.specs.WalkCalls.{get_behind, put_behind, call_shut}
 use Rattle.together.specs.RoundTrips.{Tripped, ListStands, PlanStays, back_and_out, out_and_back, verdict, refusal_of, first_refused, second_shut}
@@ -40,10 +40,10 @@ module _ (sheet plan view : List ℕ) (allowance : ℕ) (new out s : List ℕ) {
     get_shut e z = second_shut (back_and_out sheet allowance (length out) (length s)) view (λ n. n) (λ n. get_output ≤ length out) w₁ d stands out
         (rw k at (refusal_of (call_shut (get_behind sheet (take len new') allowance out s₁) e z) refl))
 
-    pub get_judged : {c : ℕ} → c ≡ shut get_output (length out) (length s₁) allowance → c ≡ 0 → {out' s₂ : List ℕ} {r₂ : Reply} {r : Trip}
+    pub get_judged : DoorOpens get_output (length out) (length s₁) allowance → {out' s₂ : List ℕ} {r₂ : Reply} {r : Trip}
         → Answered (get_answer sheet (take len new') allowance (length out) (length s₁)) r₂ out out' s₁ s₂ → r ≡ verdict p r₂ p out' view → PutGet r out' s₂
-    get_judged e z w₂ v = second_judged (back_and_out sheet allowance (length out) (length s)) view (λ n. n) (λ n. get_output ≤ length out) w₁ d stands
-        (rw k at w₂) (door_lent e z).output_long v
+    get_judged l w₂ v = second_judged (back_and_out sheet allowance (length out) (length s)) view (λ n. n) (λ n. get_output ≤ length out) w₁ d stands
+        (rw k at w₂) l.output_long v
 
 -- GET, THEN PUT
 
@@ -79,9 +79,8 @@ module _ (sheet plan : List ℕ) (allowance : ℕ) (view out s : List ℕ) {view
     put_shut e z = second_shut (out_and_back sheet plan (length out) (length s)) plan (λ n. factor * n) Lends w₁ d unmoved out
         (rw k at (refusal_of (call_shut (put_behind sheet plan (take len view') (factor * n) out s₁) e z) refl))
 
-    pub put_judged : {c : ℕ} → c ≡ shut put_output (length out) (length s₁) (factor * n) → c ≡ 0 → {out' s₂ : List ℕ} {r₂ : Reply} {r : Trip}
+    pub put_judged : DoorOpens put_output (length out) (length s₁) (factor * n) → {out' s₂ : List ℕ} {r₂ : Reply} {r : Trip}
         → Answered (put_answer sheet plan (take len view') (factor * n) (length out) (length s₁)) r₂ out out' s₁ s₂
         → r ≡ verdict n r₂ (factor * n) out' plan → GetPut r out' s₂
-    put_judged e z w₂ v =
-        let l = door_lent e z in
+    put_judged l w₂ v =
         second_judged (out_and_back sheet plan (length out) (length s)) plan (λ n. factor * n) Lends w₁ d unmoved (rw k at w₂) (l.output_long, l.few_steps) v

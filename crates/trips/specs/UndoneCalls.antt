@@ -3,8 +3,7 @@ use Rattle.std.specs.Prelude.{◌≡◌, List, ℕ, length, take}
 use Rattle.std.proofs.Common.{◌∙◌}
 use Rattle.rules.specs.Answer.{get_answer, put_answer}
 use Rattle.calls.specs.Reply.{Reply, Done, Refused}
-use Rattle.together.specs.declared.Trip.{Trip}
-use Rattle.together.specs.declared.Trip.TheVariants.{Stopped}
+use Rattle.together.specs.Trip.{Trip, Stopped}
 use Rattle.calls.specs.Calls.{Answered}
 use Rattle.together.specs.Undone.{ThreeCalls, TakesBack, first_into_new, replied}
 use Rattle.together.proofs.Undone.{get_refused, put_refused, all_made, relies}

@@ -1,9 +1,11 @@
 //! Taking back an edit: a get, a put of the edited list, and a put of the first list into the new plan.
 ghost use Rattle.std.specs.Prelude.{length};
 ghost use Rattle.rules.specs.Answer.{get_answer, put_answer};
+ghost use Rattle.together.specs.Trip.{trip_of};
 ghost use Rattle.together.specs.Undone.{ThreeCalls, TakesBack, first_into_new};
 
-use calls::Reply;
+use crate::reply_of;
+use calls::Done;
 use together::{Trip, returned};
 
 /// Reads a list out under the allowance `reading`, puts an edited one, and puts the first list into the new plan, both under
@@ -23,22 +25,21 @@ pub fn put_and_undo(
 ) -> Trip
     ensures three_calls { ThreeCalls plan.now (get_answer sheet.now plan.now reading (length list.old)
         (length scratch.old)) (put_answer sheet.now plan.now edited.now allowance (length new.old)
-        (length scratch.old)) (first_into_new sheet.now allowance (length out.old) (length scratch.old)) result
+        (length scratch.old)) (first_into_new sheet.now allowance (length out.old) (length scratch.old)) (trip_of result)
         list.old list.new new.old new.new out.old out.new scratch.old
         scratch.new }
     ensures takes_back { TakesBack sheet.now plan.now
         (get_answer sheet.now plan.now reading (length list.old) (length scratch.old))
         (put_answer sheet.now plan.now edited.now allowance (length new.old) (length scratch.old))
-        (length out.old) result out.new }
+        (length out.old) (trip_of result) out.new }
 {
     match calls::get(sheet, plan, reading, list, scratch) {
-        Reply::Refused(c) => Trip::Stopped(c),
-        Reply::Done { len, steps: _ } => {
-            let answer = calls::put(sheet, plan, edited, allowance, new, scratch);
-            let reply = answer.reply;
-            match reply {
-                Reply::Refused(c) => Trip::Stopped(c),
-                Reply::Done { len: end, steps } => {
+        Err(refusal) => Trip::Stopped(refusal),
+        Ok(Done { len, .. }) => {
+            match calls::put(sheet, plan, edited, allowance, new, scratch) {
+                Err(refusal) => Trip::Stopped(refusal),
+                Ok(put) => {
+                    let Done { len: end, steps } = put.done;
                     let again = calls::put(
                         sheet,
                         &new[..end],
@@ -47,8 +48,7 @@ pub fn put_and_undo(
                         out,
                         scratch,
                     );
-                    let last = again.reply;
-                    returned(steps, last, out, plan)
+                    returned(steps, reply_of(again), out, plan)
                 }
             }
         }

@@ -1,14 +1,14 @@
 -- The answer of the check, as the code gives it; and what is known where it is given.
 use Rattle.std.specs.Prelude.{◌≡◌, List, get_or, drop}
 use Rattle.std.proofs.Math.Path.{refl}
-use Rattle.std.proofs.Common.{sym, ap, ◌∙◌, zero-add, get_or-take, get_or-drop}
+use Rattle.std.proofs.Common.{◌∙◌, zero-add, get_or-take, get_or-drop}
 use Rattle.std.proofs.Math.Option.{Option, none, some}
 use Prim.Native.Nat.{ℕ, zero, suc, ◌+◌, ◌*◌, ◌≤◌, ◌<◌}
 use Rattle.std.proofs.Math.Nat.{add-zero}
 use native.Mathlib.Omega.{arith}
 use Rattle.std.proofs.Math.ListN.{length, length-take}
 use borrow.Author.Tests.{ltb-false}
-use Rattle.value.specs.Result.{ok, refusal}
+use Rattle.value.specs.Result.{ok, refusal, map_result}
 use Rattle.sheet.specs.Sheet.{Sheet, read_sheet}
 use Rattle.sheet.specs.Table.{table_of}
 use Rattle.sheet.specs.Laws.{Reads, Ranges, sheet_ranges, table_refused}
@@ -25,25 +25,35 @@ use Rattle.types.specs.Slots.{At, Laid, lent_below, Slotted}
 use Rattle.types.specs.SlotsLaws.{clamp_before, clamp_in, clamp_past}
 use Rattle.types.specs.Uses.{lowest_in}
 use Rattle.types.specs.Unfit.{Ready}
-use Rattle.types.specs.declared.Checked.{Checked}
-use Rattle.types.specs.declared.Checked.TheVariants as Answer
-use Rattle.types.specs.declared.Lowest.TheVariants as Found
+use Rattle.types.specs.declared.Misfit.{Misfit}
+use Rattle.refusal.specs.declared.Refusal.{Refusal}
+use Rattle.refusal.specs.Refusal.{number_of}
+use Rattle.std.specs.Prelude.{None, Some, Result as Answer, Ok, Err}
+use Rattle.std.specs.Prelude as Code
 
-unfoldable pub checked : Verdict → Checked
-checked passes = Answer.Passes
-checked (refused c) = Answer.Refused c
-checked (refused_at c n) = Answer.At c n
+-- a refusal about no node
+abbrev pub about_none : Refusal → Misfit
+about_none r = record { refusal = r; node = None }
+
+-- what the code answers, as the definition says it: a refusal by its number, and the node told beside it
+abbrev pub told_of : ℕ → Code.Option ℕ → Verdict
+told_of c None = refused c
+told_of c (Some n) = refused_at c n
+
+abbrev pub verdict_of : Answer Unit Misfit → Verdict
+verdict_of (Ok u) = passes
+verdict_of (Err m) = told_of (number_of m.refusal) m.node
 
 -- the number of each case in document 02, 0 for a sheet that passes; and the node that is told beside it
-unfoldable pub code_of : Checked → ℕ
-code_of Answer.Passes = 0
-code_of (Answer.Refused c) = c
-code_of (Answer.At c n) = c
+unfoldable pub code_of : Verdict → ℕ
+code_of passes = 0
+code_of (refused c) = c
+code_of (refused_at c n) = c
 
-unfoldable pub node_told : Checked → ℕ
-node_told Answer.Passes = 0
-node_told (Answer.Refused c) = 0
-node_told (Answer.At c n) = n
+unfoldable pub node_told : Verdict → ℕ
+node_told passes = 0
+node_told (refused c) = 0
+node_told (refused_at c n) = n
 
 -- WHERE TYPES STAND
 
@@ -158,12 +168,9 @@ module _ (sh : Sheet) (g : Ranges sh) {types starts : List ℕ} (ts : List Ty)
 
 -- THE ANSWERS
 
-pub check_refused : (sheet : List ℕ) {t : Table} (types : List ℕ) → t ≡ table_of (read_sheet sheet) → (t.refusal ≡ 0 → ⊥)
-    → Answer.Refused t.refusal ≡ checked (check sheet types)
-unfolding checked check on_sheet
-check_refused sheet types e h =
-    let q = ap (λ (x : Table). x.refusal) e in
-    rw (table_refused sheet (λ z. h (q ∙ z)), ← q)
+pub check_refused : (sheet : List ℕ) {c : ℕ} (types : List ℕ) → refusal c ≡ map_result table_of (read_sheet sheet) → refused c ≡ check sheet types
+unfolding check on_sheet
+check_refused sheet types e = rw (table_refused sheet e)
 
 module _ {sheet : List ℕ} {t : Table} {sh : Sheet} (r : Reads sheet t sh) where
   all_lent : lent_below t.k t.sections t.nodes past_slots ≡ many sh
@@ -177,8 +184,8 @@ module _ {sheet : List ℕ} {t : Table} {sh : Sheet} (r : Reads sheet t sh) wher
   pub reads_nodes : t.nodes ≤ 200
   reads_nodes = omega (arith, r.nodes, r.ranges.few_nodes)
 
-  pub check_80 : (types : List ℕ) → read_all (lent_below t.k t.sections t.nodes past_slots) types ≡ none → Answer.Refused 80 ≡ checked (check sheet types)
-  unfolding checked check on_sheet on_types
+  pub check_80 : (types : List ℕ) → read_all (lent_below t.k t.sections t.nodes past_slots) types ≡ none → refused 80 ≡ check sheet types
+  unfolding check on_sheet on_types
   check_80 types e = rw (r.sheet, rw all_lent at e)
 
   module _ {types starts : List ℕ} {ts : List Ty} (z : Slotted types starts (lent_below t.k t.sections t.nodes) ts) where
@@ -189,12 +196,12 @@ module _ {sheet : List ℕ} {t : Table} {sh : Sheet} (r : Reads sheet t sh) wher
     unfolding check on_sheet on_types
     is_checked = rw (r.sheet, rw all_lent at z.read)
 
-    pub check_81 : {n : ℕ} → Found.At n ≡ lowest_in (lowest (twice sh) 0 (length sh.nodes)) → Answer.At 81 n ≡ checked (check sheet types)
-    unfolding checked check_sheet unless_at lowest_in
+    pub check_81 : {n : ℕ} → Some n ≡ lowest_in (lowest (twice sh) 0 (length sh.nodes)) → refused_at 81 n ≡ check sheet types
+    unfolding check_sheet unless_at lowest_in
     check_81 {n} e = rw is_checked (go (lowest (twice sh) 0 (length sh.nodes)) e)
       where
-        go : (o : Option ℕ) → Found.At n ≡ lowest_in o
-            → Answer.At 81 n ≡ checked (unless_at 81 o (unless_at 82 (lowest (unfit sh (lent_of sh ts)) 0 (length sh.nodes)) passes))
+        go : (o : Option ℕ) → Some n ≡ lowest_in o
+            → refused_at 81 n ≡ unless_at 81 o (unless_at 82 (lowest (unfit sh (lent_of sh ts)) 0 (length sh.nodes)) passes)
         go none e = apart (cc)
         go (some m) e = let q : n ≡ m = cc in rw q
 
@@ -213,42 +220,41 @@ module _ {sheet : List ℕ} {t : Table} {sh : Sheet} (r : Reads sheet t sh) wher
       once = once (rw (zero-add (length sh.nodes), e) at (lowest_is (twice sh) 0 (length sh.nodes)));
     }
 
-    pub none-twice : Found.Nothing ≡ lowest_in (lowest (twice sh) 0 (length sh.nodes)) → lowest (twice sh) 0 (length sh.nodes) ≡ none
+    pub none-twice : None ≡ lowest_in (lowest (twice sh) 0 (length sh.nodes)) → lowest (twice sh) 0 (length sh.nodes) ≡ none
     unfolding lowest_in
     none-twice e = go (lowest (twice sh) 0 (length sh.nodes)) e
       where
-        go : (o : Option ℕ) → Found.Nothing ≡ lowest_in o → o ≡ none
+        go : (o : Option ℕ) → None ≡ lowest_in o → o ≡ none
         go none e = refl
         go (some m) e = apart (cc)
 
     module _ (u : lowest (twice sh) 0 (length sh.nodes) ≡ none) where
-      pub check_82 : {n : ℕ} → Found.At n ≡ lowest_in (lowest (unfit sh (lent_of sh ts)) 0 (length sh.nodes)) → Answer.At 82 n ≡ checked (check sheet types)
-      unfolding checked check_sheet unless_at lowest_in
+      pub check_82 : {n : ℕ} → Some n ≡ lowest_in (lowest (unfit sh (lent_of sh ts)) 0 (length sh.nodes)) → refused_at 82 n ≡ check sheet types
+      unfolding check_sheet unless_at lowest_in
       check_82 {n} e = rw (is_checked, u) (go (lowest (unfit sh (lent_of sh ts)) 0 (length sh.nodes)) e)
         where
-          go : (o : Option ℕ) → Found.At n ≡ lowest_in o → Answer.At 82 n ≡ checked (unless_at 81 none (unless_at 82 o passes))
+          go : (o : Option ℕ) → Some n ≡ lowest_in o → refused_at 82 n ≡ unless_at 81 none (unless_at 82 o passes)
           go none e = apart (cc)
           go (some m) e = let q : n ≡ m = cc in rw q
 
-      pub check-passes : Found.Nothing ≡ lowest_in (lowest (unfit sh (lent_of sh ts)) 0 (length sh.nodes)) → Answer.Passes ≡ checked (check sheet types)
-      unfolding checked check_sheet unless_at lowest_in
+      pub check-passes : None ≡ lowest_in (lowest (unfit sh (lent_of sh ts)) 0 (length sh.nodes)) → passes ≡ check sheet types
+      unfolding check_sheet unless_at lowest_in
       check-passes e = rw (is_checked, u) (go (lowest (unfit sh (lent_of sh ts)) 0 (length sh.nodes)) e)
         where
-          go : (o : Option ℕ) → Found.Nothing ≡ lowest_in o → Answer.Passes ≡ checked (unless_at 81 none (unless_at 82 o passes))
+          go : (o : Option ℕ) → None ≡ lowest_in o → passes ≡ unless_at 81 none (unless_at 82 o passes)
           go none e = refl
           go (some m) e = apart (cc)
 
 -- a node that is told is one of the sheet's
-pub told_inside : (sheet types : List ℕ) {q : Checked} → q ≡ checked (check sheet types) → {c n : ℕ} → q ≡ Answer.At c n → n < 200
-unfolding checked
-told_inside sheet types e {c} {n} f = go (check_judges sheet types) (sym e ∙ f)
+pub told_inside : (sheet types : List ℕ) {c n : ℕ} → check sheet types ≡ refused_at c n → n < 200
+told_inside sheet types {c} {n} f = go (check_judges sheet types) f
   where
-    says : (sh : Sheet) → read_sheet sheet ≡ ok sh → {l : _} {v : Verdict} → Says sh l v → checked v ≡ Answer.At c n → n < 200
-    says sh r (all_right o p) g = let z : ◌≡◌ {A = ℕ} 0 1 = cc in absurd (omega arith)
+    says : (sh : Sheet) → read_sheet sheet ≡ ok sh → {l : _} {v : Verdict} → Says sh l v → v ≡ refused_at c n → n < 200
+    says sh r (all_right o p) g = absurd (cc)
     says sh r (used_twice {n = m} a b o) g = let z : m ≡ n = cc in omega (arith, (sheet_ranges sheet r).few_nodes)
     says sh r (not_right {n = m} a o u b) g = let z : m ≡ n = cc in omega (arith, (sheet_ranges sheet r).few_nodes)
 
-    go : {v : Verdict} → Judges sheet types v → checked v ≡ Answer.At c n → n < 200
-    go (no_sheet r) g = let z : ◌≡◌ {A = ℕ} 0 1 = cc in absurd (omega arith)
-    go (no_types sh r q) g = let z : ◌≡◌ {A = ℕ} 0 1 = cc in absurd (omega arith)
+    go : {v : Verdict} → Judges sheet types v → v ≡ refused_at c n → n < 200
+    go (no_sheet r) g = absurd (cc)
+    go (no_types sh r q) g = absurd (cc)
     go (judged sh l r q y) g = says sh r y g

@@ -1,9 +1,9 @@
 -- What the code decides on bytes is what the definition decides on types.
-use Rattle.std.specs.Prelude.{◌≡◌, Bool, true, false, ◌&&◌, ℕ, ◌+◌, ◌*◌, ◌<◌, eqb, length, get_or}
+use Rattle.std.specs.Prelude.{◌≡◌, Bool, true, false, ◌&&◌, ◌==◌, ℕ, ◌+◌, ◌*◌, ◌<◌, eqb, get_or}
 use Rattle.std.proofs.Math.Path.{refl, ap₂}
 use Rattle.std.proofs.Common.{sym, ap, ◌∙◌, add-zero, arith}
-use Rattle.std.proofs.Math.Option.{Option, none, some}
-use mathlib.Core.List.{List, [], ◌∷◌, ◌++◌}
+use Rattle.std.proofs.Math.Option.{Option, none}
+use mathlib.Core.List.{List, ◌∷◌, ◌++◌}
 use Rattle.std.proofs.Math.ListN.{get_elem?}
 use Rattle.shapes.specs.Parts.{same_bytes}
 use Rattle.shapes.proofs.PartsLaws.{same_bytes_lem, same_refl}
@@ -16,8 +16,7 @@ use Rattle.typing.specs.Check.{apart, and?, and3?, and4?, some?, at?, lists?, pa
 use Rattle.typing.specs.Written.{bytes_of}
 use Rattle.typing.proofs.Written.{bytes_same}
 use Rattle.types.specs.Slots.{part_at, At, Laid}
-use Rattle.types.specs.SlotsLaws.{type_some}
-use Rattle.types.specs.Scopes.{Scoped, bytes_or}
+use Rattle.types.specs.Scopes.{Entry, StandsIn, IsType, is_type}
 
 -- what a decision says
 unfoldable pub holds : {A : Type 0} → Dec A → Bool
@@ -88,14 +87,17 @@ kind_pairs (lists t) d = refl
 kind_pairs (pairs a b) (yes h) = refl
 kind_pairs (pairs a b) (no h) = refl
 
-var_is : (o : Option Ty) (t : Ty) → same_bytes (bytes_or o) (bytes_of t) ≡ holds (at? o t)
-unfolding bytes_or at? holds some?
-var_is none t = decided (at? none t) _ (λ e. absurd (omega (arith, ap length (same_bytes_lem [] (bytes_of t) e), type_some t))) λ e. apart (cc)
-var_is (some u) t = same_is u t ∙ go (Ty-discrete u t)
+var_is : {o : Option Ty} {v : List ℕ} (t : Ty) → IsType v o → same_bytes v (bytes_of t) ≡ holds (at? o t)
+unfolding at? holds some?
+var_is t (is_type u e) = rw e (same_is u t ∙ go (Ty-discrete u t))
   where
     go : (d : Dec (u ≡ t)) → holds d ≡ holds (some? d)
     go (yes e) = refl
     go (no e) = refl
+
+pub var_none : {o : Option Ty} (u : Ty) → o ≡ none → false ≡ holds (at? o u)
+unfolding holds at?
+var_none u e = rw e
 
 -- in slots
 module _ {types starts : List ℕ} where
@@ -115,29 +117,30 @@ module _ {types starts : List ℕ} where
   pair_types {t} {u} {v} a b c e =
       e ∙ ap₂ (λ l m. same_bytes l (0x33 ∷ m)) a.is (ap₂ ◌++◌ b.is c.is) ∙ same_is t (pairs u v)
 
-  pub kind_is : {x k : ℕ} {t : Ty} → At types starts x t → k ≡ get_or (part_at types starts x) 0 0 → k ≡ get_or (bytes_of t) 0 0
-  kind_is a e = e ∙ ap (λ l. get_or l 0 0) a.is
+  pub kind_is : (k : ℕ) {x : ℕ} {t : Ty} {r : Bool} → At types starts x t → r ≡ (get_or (part_at types starts x) 0 0 == k)
+      → r ≡ (get_or (bytes_of t) 0 0 == k)
+  kind_is k a e = e ∙ ap (λ l. get_or l 0 0 == k) a.is
 
-  pub var_types : {y : ℕ} {u : Ty} (o : Option Ty) {v w : List ℕ} {r : Bool} → At types starts y u → v ≡ bytes_or o → w ≡ part_at types starts y
+  pub var_types : {y : ℕ} {u : Ty} {o : Option Ty} {v w : List ℕ} {r : Bool} → At types starts y u → IsType v o → w ≡ part_at types starts y
       → r ≡ same_bytes v w
       → r ≡ holds (at? o u)
-  var_types {u} o b d f e = e ∙ ap₂ same_bytes d (f ∙ b.is) ∙ var_is o u
+  var_types {u} b d f e = e ∙ ap (same_bytes _) (f ∙ b.is) ∙ var_is u d
 
 -- A NODE
 
 -- node i is n, and stands in the scope Γ
-pub record Stood (types starts stand : List ℕ) (sections nodes : ℕ) (ts : Lent) (i : ℕ) (n : Node) (Γ : Scope) : Type 0 where
+pub record Stood (types starts : List ℕ) (stand : List Entry) (sections nodes : ℕ) (ts : Lent) (i : ℕ) (n : Node) (Γ : Scope) : Type 0 where
   pub laid : Laid types starts sections nodes ts
   pub ranged : Ranged nodes sections i n
   pub own : i < nodes
-  pub scoped : Scoped types starts stand (get_or stand i 0) Γ
+  pub scoped : StandsIn types starts stand i Γ
 
-pub ranged_as : {types starts stand : List ℕ} {sections nodes : ℕ} {ts : Lent} {i : ℕ} {n m : Node} {Γ : Scope}
+pub ranged_as : {types starts : List ℕ} {stand : List Entry} {sections nodes : ℕ} {ts : Lent} {i : ℕ} {n m : Node} {Γ : Scope}
     → Stood types starts stand sections nodes ts i n Γ → n ≡ m → Ranged nodes sections i m
 ranged_as k e = rw e at k.ranged
 
 -- what the code is to find of it
-abbrev pub Fitted : (types starts stand : List ℕ) (i : ℕ) (n : Node) → Bool → Type 0
+abbrev pub Fitted : (types starts : List ℕ) (stand : List Entry) (i : ℕ) (n : Node) → Bool → Type 0
 Fitted types starts stand i n r =
     (sections nodes : ℕ) (ts : Lent) (Γ : Scope) → Stood types starts stand sections nodes ts i n Γ → r ≡ holds (fits? ts n (type_of ts i) Γ)
 
@@ -161,23 +164,23 @@ module _ (ts : Lent) {n : Node} (t : Ty) (Γ : Scope) where
   unfolding fits?
   fits_var e a = rw e a
 
-  pub fits_false : {k : ℕ} → n ≡ False → k ≡ get_or (bytes_of t) 0 0 → eqb k 0x30 ≡ holds (fits? ts n t Γ)
+  pub fits_false : {p : Bool} → n ≡ False → p ≡ (get_or (bytes_of t) 0 0 == 0x30) → p ≡ holds (fits? ts n t Γ)
   unfolding fits?
   fits_false e a = rw (e, a) (kind_truths t)
 
-  pub fits_true : {k : ℕ} → n ≡ True → k ≡ get_or (bytes_of t) 0 0 → eqb k 0x30 ≡ holds (fits? ts n t Γ)
+  pub fits_true : {p : Bool} → n ≡ True → p ≡ (get_or (bytes_of t) 0 0 == 0x30) → p ≡ holds (fits? ts n t Γ)
   unfolding fits?
   fits_true e a = rw (e, a) (kind_truths t)
 
-  pub fits_empty : {k : ℕ} → n ≡ Empty → k ≡ get_or (bytes_of t) 0 0 → eqb k 0x32 ≡ holds (fits? ts n t Γ)
+  pub fits_empty : {p : Bool} → n ≡ Empty → p ≡ (get_or (bytes_of t) 0 0 == 0x32) → p ≡ holds (fits? ts n t Γ)
   unfolding fits?
   fits_empty e a = rw (e, a) (kind_lists t)
 
-  pub fits_number : {k v : ℕ} → n ≡ Number v → k ≡ get_or (bytes_of t) 0 0 → eqb k 0x31 ≡ holds (fits? ts n t Γ)
+  pub fits_number : {v : ℕ} {p : Bool} → n ≡ Number v → p ≡ (get_or (bytes_of t) 0 0 == 0x31) → p ≡ holds (fits? ts n t Γ)
   unfolding fits?
   fits_number e a = rw (e, a) (kind_numbers t)
 
-  pub fits_wide : {k v : ℕ} → n ≡ Wide v → k ≡ get_or (bytes_of t) 0 0 → eqb k 0x31 ≡ holds (fits? ts n t Γ)
+  pub fits_wide : {v : ℕ} {p : Bool} → n ≡ Wide v → p ≡ (get_or (bytes_of t) 0 0 == 0x31) → p ≡ holds (fits? ts n t Γ)
   unfolding fits?
   fits_wide e a = rw (e, a) (kind_numbers t)
 
@@ -196,13 +199,13 @@ module _ (ts : Lent) {n : Node} (t : Ty) (Γ : Scope) where
   unfolding fits?
   fits_list e x y z w = rw (e, x, y, z, w) (sym (holds_and4 _ _ _ _))
 
-  pub fits_truth : {q r : Bool} {su f tf g tg k : ℕ} → n ≡ TruthCase su f tf g tg → k ≡ get_or (bytes_of (type_of ts su)) 0 0
-      → q ≡ holds (Ty-discrete (type_of ts f) t) → r ≡ holds (Ty-discrete (type_of ts g) t) → eqb k 0x30 && q && r ≡ holds (fits? ts n t Γ)
+  pub fits_truth : {p q r : Bool} {su f tf g tg : ℕ} → n ≡ TruthCase su f tf g tg → p ≡ (get_or (bytes_of (type_of ts su)) 0 0 == 0x30)
+      → q ≡ holds (Ty-discrete (type_of ts f) t) → r ≡ holds (Ty-discrete (type_of ts g) t) → p && q && r ≡ holds (fits? ts n t Γ)
   unfolding fits?
   fits_truth {su} e x y z = rw (e, x, y, z, kind_truths (type_of ts su)) (sym (holds_and3 _ _ _))
 
-  pub fits_split : {q : Bool} {su b k : ℕ} → n ≡ Split su b → k ≡ get_or (bytes_of (type_of ts su)) 0 0 → q ≡ holds (Ty-discrete (type_of ts b) t)
-      → eqb k 0x33 && q ≡ holds (fits? ts n t Γ)
+  pub fits_split : {p q : Bool} {su b : ℕ} → n ≡ Split su b → p ≡ (get_or (bytes_of (type_of ts su)) 0 0 == 0x33)
+      → q ≡ holds (Ty-discrete (type_of ts b) t) → p && q ≡ holds (fits? ts n t Γ)
   unfolding fits?
   fits_split {su} e x y = rw (e, x, y) (kind_pairs (type_of ts su) _)
 
@@ -212,8 +215,8 @@ module _ (ts : Lent) {n : Node} (t : Ty) (Γ : Scope) where
   unfolding fits?
   fits_call e x y z = rw (e, x, y, z) (sym (holds_and3 _ _ _))
 
-  pub fits_add : {m a k l : ℕ} → n ≡ Add m a → k ≡ get_or (bytes_of t) 0 0 → l ≡ get_or (bytes_of (type_of ts m)) 0 0
-      → eqb k 0x31 && eqb l 0x31 ≡ holds (fits? ts n t Γ)
+  pub fits_add : {m a : ℕ} {p q : Bool} → n ≡ Add m a → p ≡ (get_or (bytes_of t) 0 0 == 0x31) → q ≡ (get_or (bytes_of (type_of ts m)) 0 0 == 0x31)
+      → p && q ≡ holds (fits? ts n t Γ)
   unfolding fits?
   fits_add {m} e x y = rw (e, x, y, kind_numbers t, kind_numbers (type_of ts m)) (sym (holds-and _ _))
 

@@ -1,23 +1,24 @@
 -- Laws of reading types into their slots, one slot after another.
-use Rattle.std.specs.Prelude.{◌≡◌, refl, Bool, true, false, cond, ◌&&◌, List, [], ◌∷◌, ◌++◌, ℕ, suc, ◌+◌, ◌*◌, ◌-◌, ◌≤◌, ◌<◌, eqb, length, get_or}
+use Rattle.std.specs.Prelude.{◌≡◌, refl, Bool, true, false, cond, List, [], ◌∷◌, ◌++◌, ℕ, suc, ◌+◌, ◌*◌, ◌-◌, ◌≤◌, ◌<◌, eqb, length, get_or}
 use Rattle.std.specs.Prelude.{take, drop, set, replicate}
-use Rattle.std.proofs.Common.{sym, subst, ◌∙◌, append_assoc, append-nil, add-zero, take_at, drop_at, drop-drop, get_or-set_same, get_or-append-add}
-use Rattle.std.proofs.Common.{length-append, length-drop, length-set, drop_of_length-le, eqb-true}
+use Rattle.std.proofs.Common.{sym, ◌∙◌, append_assoc, append-nil, add-zero, take_at, drop_at, drop-drop, get_or-set_same, get_or-append-add}
+use Rattle.std.proofs.Common.{eq-eqb, ne_eqb, length-append, length-drop, length-set, drop_of_length-le}
 use Rattle.std.proofs.Math.Path.{ap}
+use Rattle.std.specs.Prelude.{None, Some}
+use Rattle.std.specs.Bool.{then_some}
 use Rattle.std.proofs.Math.Option.{Option, none, some}
 use native.Mathlib.Omega.{arith}
 use Rattle.std.proofs.Math.Decide.{ℕ_discrete}
 use Rattle.std.proofs.Math.Seq.{get_or-set_other}
 use Rattle.std.proofs.Math.ListN.{get_or-append}
-use Rattle.std.proofs.lemmas.Bool.{eqb-false}
 use Rattle.node.specs.Places.{take_rest, rest_begins}
 use Rattle.typing.specs.Numbers.{longest_type, past_slots}
 use Rattle.typing.specs.Types.{Ty, truths}
 use Rattle.typing.specs.Check.{apart, and_then, read_types, on_type, read_all}
 use Rattle.typing.specs.Written.{bytes_of, flat, Short, Taken, nothing, taken}
 use Rattle.typing.proofs.Written.{takes}
-use Rattle.types.specs.Slots.{behind, up_to, type_len, part_at, At, TypesRead}
-use Rattle.types.specs.SlotsLaws.{type_some, part_in}
+use Rattle.types.specs.Slots.{behind, up_to, type_len, part_at, At, Slotted, TypesRead, not_read, is_read}
+use Rattle.types.specs.SlotsLaws.{part_in}
 
 -- THE NEXT TYPE
 
@@ -28,37 +29,33 @@ pub record Begins (bs : List ℕ) (n : ℕ) (t : Ty) : Type 0 where
   pub long : length (bytes_of t) ≡ n
   pub more : (k : ℕ) → read_all (suc k) bs ≡ and_then (read_all k (drop n bs)) (λ ts. some (t ∷ ts))
 
-next_type : {bs : List ℕ} {o : Option (List Ty × List ℕ)} → read_types bs longest_type 1 ≡ o → Taken bs longest_type 1 o → (up_to (length bs) (behind o) ≡ 0 →
-    ⊥)
-    → (t : Ty) × Begins bs (up_to (length bs) (behind o)) t
+next_type : {bs : List ℕ} {n : ℕ} {o : Option (List Ty × List ℕ)} → read_types bs longest_type 1 ≡ o → Taken bs longest_type 1 o
+    → up_to (length bs) (behind o) ≡ Some n → (t : Ty) × Begins bs n t
 unfolding up_to behind flat read_all on_type
-next_type q nothing h = absurd (h refl)
+next_type q nothing h = apart (cc)
 next_type q (taken {ts = []} e l f) h = absurd (omega arith)
-next_type {bs} q (taken {ts = t ∷ []} {more} e l f) h =
+next_type {bs} {n} q (taken {ts = t ∷ []} {more} e l f) h =
     let z : bytes_of t ++ [] ≡ bytes_of t = append-nil (bytes_of t) in
     let d : bs ≡ bytes_of t ++ more = rw z at e in
-    let n : length (bytes_of t) ≡ length bs - length more = omega (arith, length-append (bytes_of t) more, ap length d) in
-    let m : drop (length bs - length more) bs ≡ more = ap (drop (length bs - length more)) d ∙ drop_at (bytes_of t) more (length bs - length more) n in
-    (t, record { short = rw z at f; is = rw m d; long = n; more = λ k. rw (q, m) })
+    let k : length bs - length more ≡ n = cc in
+    let g : length (bytes_of t) ≡ n = omega (arith, length-append (bytes_of t) more, ap length d) in
+    let m : drop n bs ≡ more = ap (drop n) d ∙ drop_at (bytes_of t) more n g in
+    (t, record { short = rw z at f; is = rw m d; long = g; more = λ k. rw (q, m) })
 next_type q (taken {ts = t ∷ u ∷ ts} e l f) h = absurd (omega arith)
 
-pub type_there : (bs : List ℕ) → (type_len bs ≡ 0 → ⊥) → (t : Ty) × Begins bs (type_len bs) t
+pub type_there : (bs : List ℕ) {n : ℕ} → type_len bs ≡ Some n → (t : Ty) × Begins bs n t
 unfolding type_len
 type_there bs h = next_type refl (takes bs longest_type 1) h
 
-no_type : {bs : List ℕ} (k : ℕ) {o : Option (List Ty × List ℕ)} → read_types bs longest_type 1 ≡ o → Taken bs longest_type 1 o →
-    up_to (length bs) (behind o) ≡ 0
+no_type : (bs : List ℕ) (k : ℕ) {o : Option (List Ty × List ℕ)} → read_types bs longest_type 1 ≡ o → up_to (length bs) (behind o) ≡ None
     → read_all (suc k) bs ≡ none
-unfolding up_to behind flat read_all on_type
-no_type k q nothing h = rw q
-no_type k q (taken {ts = []} e l f) h = absurd (omega arith)
-no_type {bs} k q (taken {ts = t ∷ ts} {more} e l f) h =
-    let a = type_some t in
-    absurd (omega (arith, length-append (bytes_of t) (flat ts), length-append (bytes_of t ++ flat ts) more, ap length e))
+unfolding up_to behind read_all on_type
+no_type bs k {o = none} q h = rw q
+no_type bs k {o = some (ts, more)} q h = apart (cc)
 
-pub type_none : (bs : List ℕ) (k : ℕ) → type_len bs ≡ 0 → read_all (suc k) bs ≡ none
+pub type_none : (bs : List ℕ) (k : ℕ) → type_len bs ≡ None → read_all (suc k) bs ≡ none
 unfolding type_len
-type_none bs k h = no_type k refl (takes bs longest_type 1) h
+type_none bs k h = no_type bs k refl h
 
 -- SLOT AFTER SLOT
 
@@ -105,7 +102,7 @@ module _ (types : List ℕ) (f : ℕ → ℕ) (up : (i j : ℕ) → i ≤ j → 
     left : slot < past_slots → f (slot + 1) ≡ suc (f slot) → f past_slots - f slot ≡ suc (f past_slots - f (slot + 1))
     left h e = omega (arith, up (slot + 1) past_slots (omega arith))
 
-    pub reading_failed : slot < past_slots → f (slot + 1) ≡ suc (f slot) → type_len (drop at types) ≡ 0 → read_all (f past_slots) types ≡ none
+    pub reading_failed : slot < past_slots → f (slot + 1) ≡ suc (f slot) → type_len (drop at types) ≡ None → read_all (f past_slots) types ≡ none
     unfolding and_then
     reading_failed h e z = r.rest ∙ rw (left h e, type_none (drop at types) (f past_slots - f (slot + 1)) z)
 
@@ -176,43 +173,36 @@ module _ (types : List ℕ) (f : ℕ → ℕ) (up : (i j : ℕ) → i ≤ j → 
               rw (get_or-append r.done (t ∷ []) truths (f i) w) (before (at + n) i (omega arith) _ (r.slots i (omega arith) q))
 
     -- the next slot, as the code takes it
-    pub reading_next : (lent : Bool) {n : ℕ} → slot < past_slots → f (slot + 1) ≡ cond lent 1 0 + f slot
-        → n ≡ cond lent (type_len (take (length types - at) (drop at types))) 0
-        → lent && eqb n 0 ≡ false → Reading types f (set starts (slot + 1) (at + n)) (at + n) (slot + 1)
-    reading_next true {n} h e q z =
-        let w : n ≡ type_len (drop at types) = rw (take_rest types at) at q in
-        let d = type_there (drop at types) (λ y. eqb-false n 0 z (w ∙ y)) in
-        one (subst (λ (m : ℕ). Begins (drop at types) m d.0) (sym w) d.1) h (omega arith)
-    reading_next false {n} h e q z = let w : at + n ≡ at = omega arith in rw w (skip h (omega arith))
+    module _ (h : slot < past_slots) where
+      pub reading_skip : {b : Bool} → b ≡ false → f (slot + 1) ≡ cond b 1 0 + f slot → Reading types f (set starts (slot + 1) at) at (slot + 1)
+      reading_skip z e = skip h (omega (arith, rw z at e))
 
-    pub reading_ends : (lent : Bool) {n : ℕ} → slot < past_slots → f (slot + 1) ≡ cond lent 1 0 + f slot
-        → n ≡ cond lent (type_len (take (length types - at) (drop at types))) 0
-        → lent && eqb n 0 ≡ true → (l : List ℕ) → TypesRead types f false l
-    reading_ends true {n} h e q z l =
-        let w : n ≡ type_len (drop at types) = rw (take_rest types at) at q in
-        record { not_read = λ _. reading_failed h (omega arith) (sym w ∙ eqb-true n 0 z); is_read = λ y. apart (cc) }
-    reading_ends false h e q z l = apart (cc)
+      module _ {b : Bool} (z : b ≡ true) (e : f (slot + 1) ≡ cond b 1 0 + f slot) where
+        pub reading_next : {n : ℕ} → type_len (take (length types - at) (drop at types)) ≡ Some n
+            → Reading types f (set starts (slot + 1) (at + n)) (at + n) (slot + 1)
+        reading_next q = let d = type_there (drop at types) (rw (take_rest types at) at q) in one d.1 h (omega (arith, rw z at e))
+
+        pub reading_ends : type_len (take (length types - at) (drop at types)) ≡ None → TypesRead types f None
+        reading_ends q = not_read (reading_failed h (omega (arith, rw z at e)) (rw (take_rest types at) at q))
 
     -- the last
-    pub reading-done : past_slots ≤ slot → TypesRead types f (eqb at (length types)) starts
+    pub reading-done : past_slots ≤ slot → TypesRead types f (then_some (eqb at (length types)) starts)
     unfolding and_then read_all
     reading-done h = go (ℕ_discrete at (length types))
       where
         z : f past_slots - f slot ≡ 0
         z = let y : slot ≡ past_slots = omega (arith, r.far) in let x = ap f y in omega arith
 
-        go : Dec (at ≡ length types) → TypesRead types f (eqb at (length types)) starts
-        go (yes e) = let le : length types ≤ at = omega arith in record {
-          not_read = λ q. absurd (eqb-false at (length types) q e);
-          is_read = λ _. (
-            r.done,
-            record {
-              read = r.rest ∙ rw (z, drop_of_length-le types le) (ap some (append-nil r.done));
-              at = λ i l q. r.slots i (omega arith) q;
-            },
-          );
-        }
-        go (no e) = record {
-          not_read = λ _. r.rest ∙ rw (z, rest_begins types at (omega (arith, r.inside, e)));
-          is_read = λ q. absurd (e (eqb-true at (length types) q));
-        }
+        go : Dec (at ≡ length types) → TypesRead types f (then_some (eqb at (length types)) starts)
+        go (yes e) =
+            let le : length types ≤ at = omega arith in
+            let read : read_all (f past_slots) types ≡ some r.done = r.rest ∙ rw (z, drop_of_length-le types le) (ap some (append-nil r.done)) in
+            rw (eq-eqb at (length types) e) (is_read r.done (record { read = read; at = λ i l q. r.slots i (omega arith) q }))
+        go (no e) = rw (ne_eqb at (length types) e) (not_read (r.rest ∙ rw (z, rest_begins types at (omega (arith, r.inside, e)))))
+
+-- what was read
+pub types_of : {types starts : List ℕ} {f : ℕ → ℕ} → TypesRead types f (Some starts) → (ts : List Ty) × Slotted types starts f ts
+types_of (is_read ts s) = (ts, s)
+
+pub no_types : {types : List ℕ} {f : ℕ → ℕ} → TypesRead types f None → read_all (f past_slots) types ≡ none
+no_types (not_read e) = e

@@ -8,7 +8,7 @@ use Rattle.shapes.proofs.PartsLaws.{same_bytes_lem, same_refl}
 use Rattle.sheet.specs.Sheet.{Sheet}
 use Rattle.sheet.specs.Table.{section_at}
 use Rattle.typing.specs.Types.{Ty}
-use Rattle.typing.specs.Fits.{Lent, root_of, type_of, section_of, In, here, there, Root, section_root, section_roots, main_root, roots, Placed}
+use Rattle.typing.specs.Fits.{Lent, root_of, type_of, section_of, In, here, there, Root, section_root, section_roots, main_root, Placed}
 use Rattle.typing.proofs.Fits.{section_root_lem}
 use Rattle.typing.specs.Check.{apart, placed?}
 use Rattle.typing.specs.Written.{bytes_of}

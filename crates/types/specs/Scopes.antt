@@ -1,44 +1,56 @@
--- Scopes as the code keeps them: one number each, and an array with the number of each node's scope.
-use Rattle.std.specs.Prelude.{◌≡◌, refl, cond, List, [], ◌∷◌, ◌++◌, ℕ, zero, suc, ◌+◌, ◌*◌, ◌-◌, ◌/◌, ◌%◌, ◌≤◌, ◌<◌, eqb, ltb, get_or, set}
-use Rattle.std.proofs.Math.Path.{sym}
+-- Scopes as the code keeps them: how many variables, and where their types are found; and an array with the scope that each node stands in.
+use Rattle.std.specs.Prelude.{◌≡◌, refl, Bool, true, false, cond, List, [], ◌∷◌, ◌++◌, ℕ, zero, suc, ◌+◌, ◌*◌, ◌-◌, ◌/◌, ◌%◌, ◌≤◌, ◌<◌, eqb, ltb, get_or, set}
 use Rattle.std.proofs.Common.{ap, ◌∙◌, arith, length-append, lt-ltb, le-ltb}
 use Rattle.std.proofs.Math.Option.{Option, none, some}
+use Rattle.std.specs.Prelude.{None, Some}
+use Rattle.std.specs.Prelude as Code
+use Rattle.std.specs.Option.{is_none}
 use Rattle.std.proofs.Math.Decide.{dec_lt}
 use Rattle.std.proofs.Math.Dec.{leb-suc-suc}
 use Rattle.std.proofs.Math.ListN.{length, get_elem?}
 use Rattle.node.specs.declared.Node.{Node}
 use Rattle.node.specs.declared.Node.TheVariants.{Var, False, True, Empty, Number, Front, Pair, ListCase, TruthCase, Split, Call, Add, Each, Wide}
-use Rattle.node.specs.Kinds.{children}
 use Rattle.rules.specs.Semantics.{two}
 use Rattle.typing.specs.Types.{Ty, truths}
 use Rattle.typing.specs.Fits.{Scope, added}
 use Rattle.typing.specs.Written.{bytes_of, Short}
+use Rattle.typing.specs.Numbers.{past_slots}
+use Rattle.types.specs.declared.scopes.View.{View}
+use Rattle.types.specs.declared.scopes.Found.TheVariants.{From, Inside}
 use Rattle.types.specs.Slots.{part_at, At}
+use Rattle.types.specs.SlotsLaws.{type_some, part_past}
 
--- the scope, and two variables more, the parts of the type of node s; one variable alone, the view of node i
-unfoldable pub widen : (scope s : ℕ) → ℕ
-widen scope s = 512 * (scope / 512 + 2) + 256 + s
+-- what the code keeps for a node: the scope that it stands in, once it is known
+abbrev pub Entry : Type 0
+Entry = Code.Option View
 
-unfoldable pub view_of : ℕ → ℕ
-view_of i = 512 + (41 + i)
+-- so many variables in the slots from one on; a scope, and two variables more, the parts of the type of node s; one variable alone, the view of node i
+abbrev pub slots : (width slot : ℕ) → View
+slots width slot = record { width = width; found = From slot }
+
+abbrev pub widen : View → ℕ → View
+widen v s = record { width = v.width + 2; found = Inside s }
+
+abbrev pub view_of : ℕ → View
+view_of i = slots 1 (41 + i)
 
 -- node n stands in the scope, unless it stands in one already
-unfoldable pub place_of : List ℕ → ℕ → ℕ → List ℕ
-place_of a n scope = cond (ltb n 200) (cond (eqb (get_or a n 0) 0) (set a n scope) a) a
+unfoldable pub place_of : List Entry → ℕ → View → List Entry
+place_of a n v = cond (ltb n 200) (cond (is_none (get_or a n None)) (set a n (Some v)) a) a
 
-unfoldable pub place_all : List ℕ → List (ℕ × ℕ) → List ℕ
+unfoldable pub place_all : List Entry → List (ℕ × View) → List Entry
 place_all a [] = a
 place_all a (p ∷ ps) = place_all (place_of a p.0 p.1) ps
 
 -- the array b, after that
-pub record Put (a : List ℕ) (n scope : ℕ) (b : List ℕ) : Type 0 where
-  pub is : b ≡ place_of a n scope
+pub record Put (a : List Entry) (n : ℕ) (v : View) (b : List Entry) : Type 0 where
+  pub is : b ≡ place_of a n v
 
-pub record PutAll (a : List ℕ) (ps : List (ℕ × ℕ)) (b : List ℕ) : Type 0 where
+pub record PutAll (a : List Entry) (ps : List (ℕ × View)) (b : List Entry) : Type 0 where
   pub is : b ≡ place_all a ps
 
 -- the children of node i, which stands in the scope: each number with its own scope
-unfoldable pub child_scopes : (scope i : ℕ) → Node → List (ℕ × ℕ)
+unfoldable pub child_scopes : (scope : View) (i : ℕ) → Node → List (ℕ × View)
 child_scopes scope i (Var x) = []
 child_scopes scope i False = []
 child_scopes scope i True = []
@@ -52,28 +64,34 @@ child_scopes scope i (TruthCase s f tf g tg) = (s, scope) ∷ (f, scope) ∷ (g,
 child_scopes scope i (Split s b) = (s, scope) ∷ (b, widen scope s) ∷ []
 child_scopes scope i (Call c x y) = []
 child_scopes scope i (Add n k) = (n, scope) ∷ []
-child_scopes scope i (Each s c x d) = (s, scope) ∷ (d, 1) ∷ []
+child_scopes scope i (Each s c x d) = (s, scope) ∷ (d, slots 0 0) ∷ []
 
 -- and the roots
-unfoldable pub section_scopes : ℕ → List ℕ → List (ℕ × ℕ)
+unfoldable pub section_scopes : ℕ → List ℕ → List (ℕ × View)
 section_scopes c [] = []
-section_scopes c (r ∷ rs) = (r, 1024 + (16 + 3 * c)) ∷ section_scopes (suc c) rs
+section_scopes c (r ∷ rs) = (r, slots 2 (16 + 3 * c)) ∷ section_scopes (suc c) rs
 
--- what a case is on: its first child
-unfoldable pub subject : Node → ℕ
-subject nd = get_or (children nd) 0 0
+-- the view is of the scope
+pub data Scoped (types starts : List ℕ) (stand : List Entry) : View → Scope → Type 0 where
+  base : {v : View} {Γ : Scope} (slot : ℕ) → v.width ≡ length Γ → v.found ≡ From slot
+      → ((x : ℕ) → x < length Γ → At types starts (slot + x) (get_or Γ x truths)) → Scoped types starts stand v Γ
+  inner : {v w : View} (s : ℕ) (t a b : Ty) (Γ : Scope) → s < 200 → v.width ≡ length Γ + 2 → v.found ≡ Inside s → At types starts (41 + s) t
+      → added t ≡ two a b → get_or stand s None ≡ Some w → Scoped types starts stand w Γ → Scoped types starts stand v (Γ ++ two a b)
 
--- the number stands for the scope
-pub data Scoped (types starts stand : List ℕ) : ℕ → Scope → Type 0 where
-  base : {code : ℕ} {Γ : Scope} (slot : ℕ) → slot < 256 → 0 < code → code ≡ 512 * length Γ + slot
-      → ((x : ℕ) → x < length Γ → At types starts (slot + x) (get_or Γ x truths)) → Scoped types starts stand code Γ
-  inner : {code : ℕ} (s : ℕ) (t a b : Ty) (Γ : Scope) → s < 200 → code ≡ 512 * (length Γ + 2) + (256 + s) → At types starts (41 + s) t
-      → added t ≡ two a b → Scoped types starts stand (get_or stand s 0) Γ → Scoped types starts stand code (Γ ++ two a b)
+-- node n stands in the scope
+pub record StandsIn (types starts : List ℕ) (stand : List Entry) (n : ℕ) (Γ : Scope) : Type 0 where
+  pub view : View
+  pub there : get_or stand n None ≡ Some view
+  pub scoped : Scoped types starts stand view Γ
+
+-- by the view that the code found there
+pub stands_as : {types starts : List ℕ} {stand : List Entry} {n : ℕ} {v : View} {Γ : Scope} → StandsIn types starts stand n Γ → get_or stand n None ≡ Some v
+    → Scoped types starts stand v Γ
+stands_as {v = v} k e = let t = k.there in let q : k.view ≡ v = cc in rw (← q) k.scoped
 
 -- the bytes of a type that is there
-unfoldable pub bytes_or : Option Ty → List ℕ
-bytes_or none = []
-bytes_or (some t) = bytes_of t
+pub data IsType (bs : List ℕ) : Option Ty → Type 0 where
+  is_type : (t : Ty) → bs ≡ bytes_of t → IsType bs (some t)
 
 -- WHAT A NUMBER TELLS
 
@@ -93,59 +111,63 @@ at_some [] x d h = absurd (omega arith)
 at_some (a ∷ xs) zero d h = refl
 at_some (a ∷ xs) (suc x) d h = at_some xs x d (omega arith)
 
-module _ {types starts stand : List ℕ} where
-  pub scope_some : {code : ℕ} {Γ : Scope} → Scoped types starts stand code Γ → 0 < code
-  scope_some (base slot l s e h) = s
-  scope_some (inner s t a b Γ l e h d r) = omega arith
+-- a type stands in a slot
+at_inside : {types starts : List ℕ} (n : ℕ) {t : Ty} → At types starts n t → n < past_slots
+at_inside {types} {starts} n {t} a = go (dec_lt n past_slots)
+  where
+    go : Dec (n < past_slots) → n < past_slots
+    go (yes h) = h
+    go (no h) = absurd (omega (arith, type_some t, ap length (part_past types starts n (omega arith) ∙ a.is)))
 
-  pub scope_width : {code : ℕ} {Γ : Scope} → Scoped types starts stand code Γ → code / 512 ≡ length Γ
-  scope_width (base slot l s e h) = omega arith
-  scope_width (inner s t a b Γ l e h d r) = rw (length-append Γ (two a b)) (omega arith)
-
-  pub scope_base : {code h : ℕ} {Γ : Scope} → Scoped types starts stand code Γ → h ≡ code % 512 → h < 256
-      → (x : ℕ) → x < length Γ → At types starts (h + x) (get_or Γ x truths)
-  scope_base (base {code} slot l s e h) q f x m = let z : code % 512 ≡ slot = omega arith in rw (q, z) (h x m)
-  scope_base (inner s t a b Γ l e h d r) q f x m = absurd (omega arith)
-
--- the scope around, by h less 256
-pub record Around (types starts stand : List ℕ) (code h : ℕ) (Γ : Scope) : Type 0 where
+-- the scope around
+pub record Around (types starts : List ℕ) (stand : List Entry) (v : View) (s : ℕ) (Γ : Scope) : Type 0 where
   pub type : Ty
   pub one : Ty
   pub other : Ty
   pub scope : Scope
-  pub below : h - 256 < 200
+  pub view : View
+  pub below : s < 200
   pub is : Γ ≡ scope ++ two one other
-  pub at : At types starts (41 + (h - 256)) type
+  pub at : At types starts (41 + s) type
   pub adds : added type ≡ two one other
-  pub outer : Scoped types starts stand (get_or stand (h - 256) 0) scope
-  pub less : get_or stand (h - 256) 0 < code
+  pub there : get_or stand s None ≡ Some view
+  pub outer : Scoped types starts stand view scope
+  pub less : view.width < v.width
 
-module _ {types starts stand : List ℕ} where
-  lower : {code : ℕ} {Γ : Scope} → Scoped types starts stand code Γ → code < 512 * (length Γ + 1)
-  lower (base slot l s e h) = omega arith
-  lower (inner s t a b Γ l e h d r) = rw (length-append Γ (two a b)) (omega arith)
+module _ {types starts : List ℕ} {stand : List Entry} where
+  pub scope_width : {v : View} {Γ : Scope} → Scoped types starts stand v Γ → v.width ≡ length Γ
+  scope_width (base slot e f h) = e
+  scope_width (inner s t a b Γ l e f h d g r) = rw (length-append Γ (two a b)) (omega arith)
 
-  pub scope_around : {code h : ℕ} {Γ : Scope} → Scoped types starts stand code Γ → h ≡ code % 512 → 256 ≤ h → Around types starts stand code h Γ
-  scope_around (base slot l s e h) q f = absurd (omega arith)
-  scope_around {h} (inner {code} s t a b Γ l e m d r) q f =
-      let z : h - 256 ≡ s = omega arith in
+  scope_base : {v : View} {h : ℕ} {Γ : Scope} → Scoped types starts stand v Γ → v.found ≡ From h → (x : ℕ) → x < length Γ
+      → At types starts (h + x) (get_or Γ x truths)
+  scope_base {h = h} (base slot e f k) q x m = let z : slot ≡ h = cc in rw (← z) (k x m)
+  scope_base (inner s t a b Γ l e f h d g r) q x m = absurd (cc)
+
+  scope_around : {v : View} {h : ℕ} {Γ : Scope} → Scoped types starts stand v Γ → v.found ≡ Inside h → Around types starts stand v h Γ
+  scope_around (base slot e f k) q = absurd (cc)
+  scope_around {h = h} (inner {w = w} s t a b Γ l e f m d g r) q =
+      let z : h ≡ s = cc in
+      let k = scope_width r in
       record {
         type = t;
         one = a;
         other = b;
         scope = Γ;
+        view = w;
         below = rw z l;
         is = refl;
         at = rw z m;
         adds = d;
-        outer = rw z r;
-        less = rw z (omega (arith, lower r));
+        there = rw z g;
+        outer = r;
+        less = omega arith;
       }
 
 -- CLIMBING: x is a variable of the scope, and of the one that was climbed to
-pub record Climbed (types starts stand : List ℕ) (code x : ℕ) (Γ : Scope) : Type 0 where
+pub record Climbed (types starts : List ℕ) (stand : List Entry) (v : View) (x : ℕ) (Γ : Scope) : Type 0 where
   pub scope : Scope
-  pub here : Scoped types starts stand code scope
+  pub here : Scoped types starts stand v scope
   pub within : x < length scope
   pub same : get_elem? Γ x ≡ get_elem? scope x
 
@@ -162,36 +184,57 @@ module _ (Σ : Scope) (p q : Ty) {Δ : Scope} (e : Δ ≡ Σ ++ two p q) (x : �
       go (yes y) n = let z : x - w ≡ 1 = omega arith in rw (z, lt-ltb w x y)
       go (no y) n = let z : x - w ≡ 0 = omega arith in rw (z, le-ltb w x (omega arith))
 
-module _ {types starts stand : List ℕ} {x : ℕ} {Γ : Scope} where
-  pub climb_none : {code w : ℕ} → w ≡ code / 512 → w ≤ x → Scoped types starts stand code Γ → [] ≡ bytes_or (get_elem? Γ x)
-  unfolding bytes_or
-  climb_none e h r = rw (at_none Γ x (omega (arith, scope_width r)))
+module _ {types starts : List ℕ} {stand : List Entry} {x : ℕ} {Γ : Scope} where
+  pub climb_none : {v : View} → v.width ≤ x → Scoped types starts stand v Γ → get_elem? Γ x ≡ none
+  climb_none h r = at_none Γ x (omega (arith, scope_width r))
 
-  pub climb_start : {code w : ℕ} → w ≡ code / 512 → x < w → Scoped types starts stand code Γ → Climbed types starts stand code x Γ
-  climb_start e h r = record { scope = Γ; here = r; within = omega (arith, scope_width r); same = refl }
+  pub climb_start : {v : View} → x < v.width → Scoped types starts stand v Γ → Climbed types starts stand v x Γ
+  climb_start h r = record { scope = Γ; here = r; within = omega (arith, scope_width r); same = refl }
 
-  module _ {code h : ℕ} (k : Climbed types starts stand code x Γ) (q : h ≡ code % 512) where
-    pub climb_base : {b : List ℕ} → h < 256 → b ≡ part_at types starts (h + x) → b ≡ bytes_or (get_elem? Γ x)
-    unfolding bytes_or
-    climb_base f e = let a = scope_base k.here q f x k.within in e ∙ a.is ∙ sym (ap bytes_or (k.same ∙ at_some k.scope x truths k.within))
+  module _ {v : View} (k : Climbed types starts stand v x Γ) where
+    module _ {h : ℕ} (f : v.found ≡ From h) where
+      pub climb_slot : h + x < past_slots
+      climb_slot = at_inside (h + x) (scope_base k.here f x k.within)
 
-    module _ (f : 256 ≤ h) where
-      pub climb_around : Around types starts stand code h k.scope
-      climb_around = scope_around k.here q f
+      pub climb_base : {b : List ℕ} → b ≡ part_at types starts (h + x) → IsType b (get_elem? Γ x)
+      climb_base e =
+          let a = scope_base k.here f x k.within in
+          rw (k.same, at_some k.scope x truths k.within) (is_type (get_or k.scope x truths) (e ∙ a.is))
 
-      module _ {w : ℕ} (e : w ≡ get_or stand (h - 256) 0 / 512) where
-        pub climb_up : x < w → Climbed types starts stand (get_or stand (h - 256) 0) x Γ
-        climb_up m = let a = scope_around k.here q f in let l : x < length a.scope = omega (arith, scope_width a.outer) in record {
+    module _ {s : ℕ} (f : v.found ≡ Inside s) where
+      pub climb_around : Around types starts stand v s k.scope
+      climb_around = scope_around k.here f
+
+      module _ {w : View} (e : get_or stand s None ≡ Some w) where
+        around_is : climb_around.view ≡ w
+        around_is = let a = climb_around.there in cc
+
+        outer_is : Scoped types starts stand w climb_around.scope
+        outer_is = rw (← around_is) climb_around.outer
+
+        pub climb_less : w.width < v.width
+        climb_less = rw (← around_is) climb_around.less
+
+        pub climb_up : x < w.width → Climbed types starts stand w x Γ
+        climb_up m = let a = climb_around in let l : x < length a.scope = omega (arith, scope_width outer_is) in record {
           scope = a.scope;
-          here = a.outer;
+          here = outer_is;
           within = l;
           same = k.same ∙ two_up a.scope a.one a.other a.is x l;
         }
 
-        pub climb_part : w ≤ x → {b u : List ℕ} → u ≡ part_at types starts (41 + (h - 256))
-            → ((t p q : Ty) → u ≡ bytes_of t → Short t → added t ≡ two p q → b ≡ bytes_of (cond (ltb w x) q p)) → b ≡ bytes_or (get_elem? Γ x)
-        unfolding bytes_or
-        climb_part m d g =
-            let a = scope_around k.here q f in let l : w ≡ length a.scope = e ∙ scope_width a.outer in
-            g a.type a.one a.other (d ∙ a.at.is) a.at.short a.adds
-            ∙ sym (ap bytes_or (k.same ∙ two_part a.scope a.one a.other a.is x l m k.within))
+        module _ (m : w.width ≤ x) {u : List ℕ} (d : u ≡ part_at types starts (41 + s)) where
+          -- a type that adds no variables is no case's subject
+          pub climb_no_parts : ((t p q : Ty) → u ≡ bytes_of t → Short t → added t ≡ two p q → ⊥) → ⊥
+          climb_no_parts g = let a = climb_around in g a.type a.one a.other (d ∙ a.at.is) a.at.short a.adds
+
+          pub climb_part : {v b : List ℕ} → ((t p q : Ty) → u ≡ bytes_of t → Short t → added t ≡ two p q → (v ≡ bytes_of p) × (b ≡ bytes_of q))
+              → IsType (cond (ltb w.width x) b v) (get_elem? Γ x)
+          climb_part {v} {b} g =
+              let a = climb_around in let l : w.width ≡ length a.scope = scope_width outer_is in
+              let y = g a.type a.one a.other (d ∙ a.at.is) a.at.short a.adds in
+              rw (k.same, two_part a.scope a.one a.other a.is x l m k.within) (go a.one a.other (ltb w.width x) y.0 y.1)
+            where
+              go : (p q : Ty) (c : Bool) → v ≡ bytes_of p → b ≡ bytes_of q → IsType (cond c b v) (some (cond c q p))
+              go p q true y z = is_type q z
+              go p q false y z = is_type p y

@@ -1,14 +1,16 @@
 -- Laws of types where they stand: how a length is found byte by byte, and which slot is lent.
-use Rattle.std.specs.Prelude.{◌≡◌, refl, ◌⊎◌, Bool, true, false, List, [], ◌∷◌, ◌++◌, leb, ltb, take, drop}
+use Rattle.std.specs.Prelude.{◌≡◌, refl, ◌⊎◌, Bool, true, false, List, [], ◌∷◌, ◌++◌, leb, ltb, min, take, drop, ◌==◌}
 use Rattle.std.proofs.Math.Path.{sym, ap}
 use Rattle.std.proofs.Common.{◌∙◌, inl, inr, drop_at, length-drop, drop_of_length-le, take-append-drop}
 use Rattle.std.proofs.Math.Bool.{cond}
+use Rattle.std.specs.Prelude.{None, Some}
 use Rattle.std.proofs.Math.Option.{Option, none, some}
-use Prim.Native.Nat.{ℕ, zero, suc, ◌+◌, ◌*◌, ◌-◌, ◌≤◌, ◌<◌}
+use Prim.Native.Nat.{ℕ, suc, ◌+◌, ◌*◌, ◌-◌, ◌≤◌, ◌<◌}
 use native.Mathlib.Omega.{arith}
 use Rattle.std.proofs.Math.Decide.{dec_lt}
 use Rattle.std.proofs.Math.Seq.{take_at}
 use Rattle.std.proofs.Math.ListN.{length, get_or, length-append}
+use Rattle.std.proofs.lemmas.List.{get_or-take, length-take}
 use borrow.Author.Tests.{lt-ltb, le-ltb, le-leb, lt-leb, eq-eqb}
 use Rattle.shapes.specs.Parts.{both, same_bytes}
 use Rattle.shapes.proofs.PartsLaws.{same_bytes_lem, same_refl}
@@ -17,12 +19,15 @@ use Rattle.typing.specs.Numbers.{longest_type, past_slots}
 use Rattle.typing.specs.Types.{Ty, truths, numbers, lists, pairs}
 use Rattle.typing.specs.Fits.{added}
 use Rattle.rules.specs.Semantics.{two}
-use Rattle.typing.specs.Check.{apart, make_list, make_pair, also, and_then, Kind, unknown, kind_of, begin, read_types}
+use Rattle.typing.specs.Check.{apart, make_list, make_pair, also, and_then, k_truth, k_number, k_list, k_pair, unknown, kind_of, begin, read_types}
+use Rattle.typing.specs.Check as Checks
 use Rattle.typing.specs.Written.{bytes_of, Short, Taken, nothing, taken, Names, is_truth, is_number, is_list, is_pair}
 use Rattle.typing.proofs.Written.{takes, none_owed, one_back}
 use Rattle.typing.specs.Written.{is_other}
 use Rattle.typing.proofs.Written.{names}
-use Rattle.types.specs.Slots.{behind, up_to, type_len, part_at, clamp, lent_below}
+use Rattle.types.specs.declared.lent.Kind.{Kind}
+use Rattle.types.specs.declared.lent.Kind.TheVariants.{Truths, Numbers, Lists, Pairs}
+use Rattle.types.specs.Slots.{kind_told, kind_named, byte_of, owed_behind, behind, up_to, type_len, part_at, clamp, lent_below}
 
 -- THE LENGTH OF A TYPE
 
@@ -44,28 +49,37 @@ pair_behind (taken {ts = []} e l f) = absurd (omega arith)
 pair_behind (taken {ts = t ∷ []} e l f) = absurd (omega arith)
 pair_behind (taken {ts = t ∷ u ∷ ts} e l f) = refl
 
-other_kind : {b : ℕ} {k : Kind} → Names b k → (b < 0x30) ⊎ (0x33 < b) → k ≡ unknown
-other_kind is_truth h = go h
+-- THE KINDS
+
+kind_byte : {b : ℕ} {k : Kind} → kind_named b ≡ Some k → b ≡ byte_of k
+unfolding kind_told
+kind_byte {b} {k} e = go (names b) e
   where
-    go : {k : Kind} → (0x30 < 0x30) ⊎ (0x33 < 0x30) → k ≡ unknown
-    go (inl q) = absurd (omega arith)
-    go (inr q) = absurd (omega arith)
-other_kind is_number h = go h
+    go : {b : ℕ} {n : Checks.Kind} → Names b n → kind_told n ≡ Some k → b ≡ byte_of k
+    go is_truth e = let q : Truths ≡ k = cc in rw (← q)
+    go is_number e = let q : Numbers ≡ k = cc in rw (← q)
+    go is_list e = let q : Lists ≡ k = cc in rw (← q)
+    go is_pair e = let q : Pairs ≡ k = cc in rw (← q)
+    go is_other e = apart (cc)
+
+pub kind_none : (b : ℕ) → (b ≡ 0x30 → ⊥) → (b ≡ 0x31 → ⊥) → (b ≡ 0x32 → ⊥) → (b ≡ 0x33 → ⊥) → None ≡ kind_named b
+unfolding kind_told
+kind_none b t n l p = go (names b) t n l p
   where
-    go : {k : Kind} → (0x31 < 0x30) ⊎ (0x33 < 0x31) → k ≡ unknown
-    go (inl q) = absurd (omega arith)
-    go (inr q) = absurd (omega arith)
-other_kind is_list h = go h
-  where
-    go : {k : Kind} → (0x32 < 0x30) ⊎ (0x33 < 0x32) → k ≡ unknown
-    go (inl q) = absurd (omega arith)
-    go (inr q) = absurd (omega arith)
-other_kind is_pair h = go h
-  where
-    go : {k : Kind} → (0x33 < 0x30) ⊎ (0x33 < 0x33) → k ≡ unknown
-    go (inl q) = absurd (omega arith)
-    go (inr q) = absurd (omega arith)
-other_kind is_other h = refl
+    go : {b : ℕ} {k : Checks.Kind} → Names b k → (b ≡ 0x30 → ⊥) → (b ≡ 0x31 → ⊥) → (b ≡ 0x32 → ⊥) → (b ≡ 0x33 → ⊥) → None ≡ kind_told k
+    go is_truth t n l p = absurd (t refl)
+    go is_number t n l p = absurd (n refl)
+    go is_list t n l p = absurd (l refl)
+    go is_pair t n l p = absurd (p refl)
+    go is_other t n l p = refl
+
+-- no byte is of no kind
+pub no_byte : (l : List ℕ) (k : Kind) → length l ≡ 0 → false ≡ (get_or l 0 0 == byte_of k)
+no_byte [] Truths h = refl
+no_byte [] Numbers h = refl
+no_byte [] Lists h = refl
+no_byte [] Pairs h = refl
+no_byte (x ∷ l) k h = absurd (omega arith)
 
 -- `at` bytes are read, and `owed` types are still to come
 pub record Owing (s : List ℕ) (at owed : ℕ) : Type 0 where
@@ -78,33 +92,50 @@ pub owing_one : (s : List ℕ) → Owing s 0 1
 owing_one s = record { inside = omega arith; few = omega arith; small = omega arith; same = refl }
 
 module _ (s : List ℕ) {at owed : ℕ} (w : Owing s at owed) where
-  len_none : behind (read_types (drop at s) (longest_type - at) owed) ≡ none → 0 ≡ type_len s
+  len_none : behind (read_types (drop at s) (longest_type - at) owed) ≡ none → None ≡ type_len s
   unfolding type_len up_to
   len_none e = rw (w.same, e)
 
-  pub len_done : owed ≡ 0 → at ≡ type_len s
+  pub len_done : owed ≡ 0 → Some at ≡ type_len s
   unfolding type_len up_to behind
-  len_done e = rw (w.same, e, none_owed (drop at s) (longest_type - at), length-drop) (omega (arith, w.inside))
+  len_done e =
+      let z : at ≡ length s - length (drop at s) = omega (arith, length-drop at s, w.inside) in
+      ap Some z ∙ rw (w.same, e, none_owed (drop at s) (longest_type - at))
 
-  module _ (some-owed : owed ≡ 0 → ⊥) where
+  module _ (some-owed : 1 ≤ owed) where
     owes : owed ≡ suc (owed - 1)
-    owes = go owed some-owed
-      where
-        go : (n : ℕ) → (n ≡ 0 → ⊥) → n ≡ suc (n - 1)
-        go zero h = absurd (h refl)
-        go (suc n) h = omega arith
+    owes = omega arith
 
-    pub len_past : length s ≤ at → 0 ≡ type_len s
+    len_past : length s ≤ at → None ≡ type_len s
     unfolding behind read_types
     len_past h = len_none (rw (drop_of_length-le s h, owes))
 
-    module _ (h : at < length s) where
-      pub len_long : longest_type ≤ at → 0 ≡ type_len s
-      unfolding behind read_types
-      len_long f = let z : longest_type - at ≡ 0 = omega arith in len_none (rw (rest_begins s at h, z, owes))
+    len_long : at < length s → longest_type ≤ at → None ≡ type_len s
+    unfolding behind read_types
+    len_long h f = let z : longest_type - at ≡ 0 = omega arith in len_none (rw (rest_begins s at h, z, owes))
 
-      module _ (f : at < longest_type) where
+    module _ {m : ℕ} (least : m ≡ min (length s) longest_type) where
+      pub len_end : length (take m s) ≤ at → None ≡ type_len s
+      len_end h = go (dec_lt at (length s))
+        where
+          go : Dec (at < length s) → None ≡ type_len s
+          go (yes l) = len_long l (omega (arith, length-take m s))
+          go (no l) = len_past (omega arith)
+
+      module _ (h : at < length (take m s)) where
+        inside : at < length s
+        inside = omega (arith, length-take m s)
+
+        few : at < longest_type
+        few = omega (arith, length-take m s)
+
+        pub owed_few : owed ≤ longest_type
+        owed_few = omega (arith, few, w.small)
+
         -- the next byte
+        here : get_or (take m s) at 0 ≡ get_or s at 0
+        here = get_or-take m s at 0 (omega (arith, length-take m s))
+
         next : behind (read_types (drop at s) (longest_type - at) owed)
             ≡ behind (begin (read_types (drop (at + 1) s) (longest_type - (at + 1))) (owed - 1) (kind_of (get_or s at 0)))
         unfolding read_types
@@ -112,41 +143,41 @@ module _ (s : List ℕ) {at owed : ℕ} (w : Owing s at owed) where
           where
             go : (o : ℕ) → o ≡ suc (owed - 1) → behind (read_types (drop at s) (longest_type - at) o)
                 ≡ behind (begin (read_types (drop (at + 1) s) (longest_type - (at + 1))) (owed - 1) (kind_of (get_or s at 0)))
-            go o e = let z : longest_type - at ≡ suc (longest_type - (at + 1)) = omega arith in rw (rest_begins s at h, z, e)
+            go o e = let z : longest_type - at ≡ suc (longest_type - (at + 1)) = omega (arith, few) in rw (rest_begins s at inside, z, e)
 
-        pub len_other : (get_or s at 0 < 0x30) ⊎ (0x33 < get_or s at 0) → 0 ≡ type_len s
-        unfolding begin behind
-        len_other q = len_none (next ∙ rw (other_kind (names (get_or s at 0)) q))
+        pub len_unknown : kind_named (get_or (take m s) at 0) ≡ None → None ≡ type_len s
+        unfolding kind_told begin behind
+        len_unknown e = len_none (next ∙ go (kind_of (get_or s at 0)) (rw here at e))
+          where
+            go : (k : Checks.Kind) → kind_told k ≡ None
+                → behind (begin (read_types (drop (at + 1) s) (longest_type - (at + 1))) (owed - 1) k) ≡ none
+            go k_truth e = apart (cc)
+            go k_number e = apart (cc)
+            go k_list e = apart (cc)
+            go k_pair e = apart (cc)
+            go unknown e = refl
 
         owing_next : (n : ℕ) → n ≤ at + 1 + 1
             → behind (begin (read_types (drop (at + 1) s) (longest_type - (at + 1))) (owed - 1) (kind_of (get_or s at 0)))
             ≡ behind (read_types (drop (at + 1) s) (longest_type - (at + 1)) n) → Owing s (at + 1) n
-        owing_next n l e = record { inside = omega arith; few = omega arith; small = l; same = w.same ∙ next ∙ e }
+        owing_next n l e = record { inside = omega (arith, inside); few = omega (arith, few); small = l; same = w.same ∙ next ∙ e }
 
-        pub owing_less : 0x30 ≤ get_or s at 0 → get_or s at 0 < 0x32 → Owing s (at + 1) (owed - 1)
+        pub owing_kind : (k : Kind) → kind_named (get_or (take m s) at 0) ≡ Some k → Owing s (at + 1) (owed_behind k owed)
         unfolding begin kind_of
-        owing_less a b = owing_next (owed - 1) (omega (arith, w.small)) (go (dec_lt (get_or s at 0) 0x31))
+        owing_kind k e = go k (sym here ∙ kind_byte e)
           where
-            go : Dec (get_or s at 0 < 0x31) → behind (begin (read_types (drop (at + 1) s) (longest_type - (at + 1))) (owed - 1) (kind_of (get_or s at 0)))
-                ≡ behind (read_types (drop (at + 1) s) (longest_type - (at + 1)) (owed - 1))
-            go (yes q) = let z : get_or s at 0 ≡ 0x30 = omega arith in
-                rw z (also-behind truths (read_types (drop (at + 1) s) (longest_type - (at + 1)) (owed - 1)))
-            go (no q) = let z : get_or s at 0 ≡ 0x31 = omega arith in
-                rw z (also-behind numbers (read_types (drop (at + 1) s) (longest_type - (at + 1)) (owed - 1)))
-
-        pub owing_same : get_or s at 0 ≡ 0x32 → Owing s (at + 1) owed
-        unfolding begin kind_of
-        owing_same e =
-            let l : suc (owed - 1) ≤ at + 1 + 1 = omega (arith, w.small, owes) in
-            let n : Owing s (at + 1) (suc (owed - 1)) = owing_next (suc (owed - 1)) l
-            (rw e (list_behind (takes (drop (at + 1) s) (longest_type - (at + 1)) (suc (owed - 1))))) in
-            rw (← owes) at n
-
-        pub owing_more : get_or s at 0 ≡ 0x33 → Owing s (at + 1) (owed + 1)
-        unfolding begin kind_of
-        owing_more e = let z : owed + 1 ≡ suc (suc (owed - 1)) = omega (arith, owes) in
-            owing_next (owed + 1) (omega (arith, w.small))
-            (rw (e, z) (pair_behind (takes (drop (at + 1) s) (longest_type - (at + 1)) (suc (suc (owed - 1))))))
+            go : (k : Kind) → get_or s at 0 ≡ byte_of k → Owing s (at + 1) (owed_behind k owed)
+            go Truths e = owing_next (owed - 1) (omega (arith, w.small))
+                (rw e (also-behind truths (read_types (drop (at + 1) s) (longest_type - (at + 1)) (owed - 1))))
+            go Numbers e = owing_next (owed - 1) (omega (arith, w.small))
+                (rw e (also-behind numbers (read_types (drop (at + 1) s) (longest_type - (at + 1)) (owed - 1))))
+            go Lists e =
+                let n : Owing s (at + 1) (suc (owed - 1)) = owing_next (suc (owed - 1)) (omega (arith, w.small, owes))
+                (rw e (list_behind (takes (drop (at + 1) s) (longest_type - (at + 1)) (suc (owed - 1))))) in
+                rw (← owes) at n
+            go Pairs e = let z : owed + 1 ≡ suc (suc (owed - 1)) = omega (arith, owes) in
+                owing_next (owed + 1) (omega (arith, w.small))
+                (rw (e, z) (pair_behind (takes (drop (at + 1) s) (longest_type - (at + 1)) (suc (suc (owed - 1))))))
 
 -- WHICH SLOT IS LENT
 
@@ -352,51 +383,73 @@ type_some numbers = omega arith
 type_some (lists t) = omega arith
 type_some (pairs a b) = omega arith
 
-pub type_long : (t : Ty) (bs : List ℕ) → Short t → type_len (bytes_of t ++ bs) ≡ length (bytes_of t)
+pub type_long : (t : Ty) (bs : List ℕ) → Short t → type_len (bytes_of t ++ bs) ≡ Some (length (bytes_of t))
 unfolding type_len up_to behind and_then also
 type_long t bs h =
     let q : longest_type ≡ length (bytes_of t) + (longest_type - length (bytes_of t)) = omega arith in
-    rw (one_back t bs (longest_type - length (bytes_of t)) longest_type 0 q, none_owed bs (longest_type - length (bytes_of t)), length-append (bytes_of t) bs)
-    (omega arith)
+    let z : length (bytes_of t) + length bs - length bs ≡ length (bytes_of t) = omega arith in
+    rw (
+      one_back t bs (longest_type - length (bytes_of t)) longest_type 0 q,
+      none_owed bs (longest_type - length (bytes_of t)),
+      length-append (bytes_of t) bs,
+      z,
+    )
 
-len_inside : (s : List ℕ) → type_len s ≤ length s
+pub len_inside : (s : List ℕ) {n : ℕ} → type_len s ≡ Some n → n ≤ length s
 unfolding type_len up_to
-len_inside s = go (behind (read_types s longest_type 1))
+len_inside s {n} e = go (behind (read_types s longest_type 1)) e
   where
-    go : (o : Option ℕ) → up_to (length s) o ≤ length s
-    go none = omega arith
-    go (some m) = omega arith
+    go : (o : Option ℕ) → up_to (length s) o ≡ Some n → n ≤ length s
+    go none e = apart (cc)
+    go (some m) e = let q : length s - m ≡ n = cc in omega arith
 
-module _ (l : List ℕ) where
-  pub middle_inside : {n : ℕ} → n ≡ type_len (take (length l - 1) (drop 1 l)) → 0 < length l → n + 1 ≤ length l
-  middle_inside e h = omega (arith, rw (take_rest l 1) at e, len_inside (drop 1 l), length-drop 1 l)
+-- the parts of the type u
+module _ (l : List ℕ) (u a b : Ty) (e : l ≡ bytes_of u) (d : added u ≡ two a b) where
+  pub parts_kind : kind_named (get_or l 0 0) ≡ None → ⊥
+  unfolding bytes_of kind_told kind_of
+  parts_kind n = go u (rw e at n)
+    where
+      go : (u : Ty) → kind_named (get_or (bytes_of u) 0 0) ≡ None → ⊥
+      go truths n = cc
+      go numbers n = cc
+      go (lists t) n = cc
+      go (pairs p q) n = cc
 
-  module _ (u a b : Ty) (e : l ≡ bytes_of u) where
-    pub list_parts : (get_or l 0 0 ≡ 0x33 → ⊥) → added u ≡ two a b → (l ≡ bytes_of b) × (take (length l - 1) (drop 1 l) ≡ bytes_of a)
-    unfolding bytes_of
-    list_parts n d = rw (take_rest l 1) (rw e (go u (rw e at n) d))
+  pub list_parts : (kind_named (get_or l 0 0) ≡ Some Pairs → ⊥) → (take (length l - 1) (drop 1 l) ≡ bytes_of a) × (l ≡ bytes_of b)
+  unfolding bytes_of kind_told kind_of
+  list_parts n = rw (take_rest l 1) (rw e (go u (rw e at n) d))
+    where
+      go : (u : Ty) → (kind_named (get_or (bytes_of u) 0 0) ≡ Some Pairs → ⊥) → added u ≡ two a b
+          → (drop 1 (bytes_of u) ≡ bytes_of a) × (bytes_of u ≡ bytes_of b)
+      go truths n d = apart (cc)
+      go numbers n d = apart (cc)
+      go (lists t) n d = let p : t ≡ a = cc in let q : lists t ≡ b = cc in (ap bytes_of p, ap bytes_of q)
+      go (pairs p q) n d = absurd (n refl)
+
+  module _ (s : Short u) (k : kind_named (get_or l 0 0) ≡ Some Pairs) where
+    parts : (p : Ty) × ((q : Ty) × ((drop 1 l ≡ bytes_of p ++ bytes_of q) × ((Short p) × ((p ≡ a) × (q ≡ b)))))
+    unfolding bytes_of kind_told kind_of
+    parts = rw e (go u s (rw e at k) d)
       where
-        go : (u : Ty) → (get_or (bytes_of u) 0 0 ≡ 0x33 → ⊥) → added u ≡ two a b → (bytes_of u ≡ bytes_of b) × (drop 1 (bytes_of u) ≡ bytes_of a)
-        go truths n d = apart (cc)
-        go numbers n d = apart (cc)
-        go (lists t) n d = let x : t ≡ a = cc in let y : lists t ≡ b = cc in (ap bytes_of y, ap bytes_of x)
-        go (pairs x y) n d = absurd (n refl)
+        go : (u : Ty) → Short u → kind_named (get_or (bytes_of u) 0 0) ≡ Some Pairs → added u ≡ two a b
+            → (p : Ty) × ((q : Ty) × ((drop 1 (bytes_of u) ≡ bytes_of p ++ bytes_of q) × ((Short p) × ((p ≡ a) × (q ≡ b)))))
+        go truths s k d = apart (cc)
+        go numbers s k d = apart (cc)
+        go (lists t) s k d = apart (cc)
+        go (pairs p q) s k d = (p, (q, (refl, (omega (arith, length-append (bytes_of p) (bytes_of q)), (cc, cc)))))
 
-    pub pair_parts : {n : ℕ} → n ≡ type_len (take (length l - 1) (drop 1 l)) → Short u → get_or l 0 0 ≡ 0x33 → added u ≡ two a b
-        → (take (length l - (1 + n)) (drop (1 + n) l) ≡ bytes_of b) × (take (1 + n - 1) (drop 1 l) ≡ bytes_of a)
-    unfolding bytes_of
-    pair_parts {n} f s q d =
-        let z : 1 + n - 1 ≡ n = omega arith in let z' : 1 + n ≡ suc n = omega arith in
-        let g : n ≡ type_len (drop 1 (bytes_of u)) = rw (take_rest l 1, e) at f in
-        rw (take_rest l (1 + n), z, z', e) (go u s (rw e at q) d g)
-      where
-        go : (u : Ty) → Short u → get_or (bytes_of u) 0 0 ≡ 0x33 → added u ≡ two a b → n ≡ type_len (drop 1 (bytes_of u))
-            → (drop (suc n) (bytes_of u) ≡ bytes_of b) × (take n (drop 1 (bytes_of u)) ≡ bytes_of a)
-        go truths s q d f = absurd (omega arith)
-        go numbers s q d f = absurd (omega arith)
-        go (lists t) s q d f = absurd (omega arith)
-        go (pairs x y) s q d f =
-            let p : x ≡ a = cc in let r : y ≡ b = cc in
-            let h : Short x = omega (arith, length-append (bytes_of x) (bytes_of y)) in
-            let g : length (bytes_of x) ≡ n = sym (f ∙ type_long x (bytes_of y) h) in
-            (drop_at (bytes_of x) (bytes_of y) n g ∙ ap bytes_of r, take_at (bytes_of x) (bytes_of y) n g ∙ ap bytes_of p)
+    first_long : type_len (take (length l - 1) (drop 1 l)) ≡ Some (length (bytes_of a))
+    first_long = let (p, (q, (w, (h, (f, g))))) = parts in
+        ap type_len (take_rest l 1 ∙ w) ∙ type_long p (bytes_of q) h ∙ ap (λ (t : Ty). Some (length (bytes_of t))) f
+
+    pub pair_none : type_len (take (length l - 1) (drop 1 l)) ≡ None → ⊥
+    pair_none n = let f = first_long in cc
+
+    pub pair_parts : {n : ℕ} → type_len (take (length l - 1) (drop 1 l)) ≡ Some n
+        → (take n (take (length l - 1) (drop 1 l)) ≡ bytes_of a) × (drop n (take (length l - 1) (drop 1 l)) ≡ bytes_of b)
+    pair_parts {n} z =
+        let (p, (q, (w, (h, (f, g))))) = parts in
+        let x : Some n ≡ Some (length (bytes_of a)) = sym z ∙ first_long in
+        let y : n ≡ length (bytes_of a) = cc in
+        let m : length (bytes_of p) ≡ n = ap (λ (t : Ty). length (bytes_of t)) f ∙ sym y in
+        rw (take_rest l 1, w) (take_at (bytes_of p) (bytes_of q) n m ∙ ap bytes_of f, drop_at (bytes_of p) (bytes_of q) n m ∙ ap bytes_of g)

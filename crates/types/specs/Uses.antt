@@ -1,11 +1,14 @@
 -- How often nodes are used, in an array: 2 stands for two and more.
-use Rattle.std.specs.Prelude.{◌≡◌, refl, Bool, true, false, List, [], ◌∷◌, ◌++◌, eqb, ltb, length, get_or, set, take, replicate}
+use Rattle.std.specs.Prelude.{◌≡◌, refl, Bool, true, false, List, [], ◌∷◌, ◌++◌, eqb, ltb, length, get_or, set, take, replicate, ◌==◌, position}
+use Rattle.std.specs.List.{position_or_len}
+use Rattle.std.proofs.lemmas.List.Sums.{position_or_len_is}
+use Rattle.std.proofs.Common.{zero-add, le-ltb}
 use Rattle.std.proofs.Common.{sym, ap, ◌∙◌, append-nil, get_or-set_same, get_or-set_other, take-suc, take_all, length-set, eq-eqb, ne_eqb, lt-ltb}
 use Rattle.std.proofs.Math.Option.{Option, none, some}
 use Prim.Native.Nat.{ℕ, zero, suc, ◌+◌, ◌-◌, ◌≤◌, ◌<◌}
 use native.Mathlib.Omega.{arith}
 use Rattle.std.proofs.Math.Decide.{ℕ_discrete}
-use Rattle.std.proofs.lemmas.List.{get_or-replicate}
+use Rattle.std.proofs.lemmas.List.{get_or-replicate, get_or-take, length-take, length-take-le}
 use Rattle.sheet.specs.Sheet.{Sheet}
 use Rattle.node.specs.Decoding.{node_at}
 use Rattle.sheet.specs.Table.{section_at}
@@ -14,14 +17,14 @@ use Rattle.sheet.specs.declared.Table.{Table}
 use Rattle.node.specs.Kinds.{children}
 use Rattle.node.specs.declared.Node.{Node}
 use Rattle.typing.specs.Check.{count, used, twice, lowest}
-use Rattle.typing.proofs.CheckLaws.{count-append}
-use Rattle.types.specs.declared.Lowest.{Lowest}
-use Rattle.types.specs.declared.Lowest.TheVariants.{At, Nothing}
+use Rattle.typing.proofs.CheckLaws.{NoneBelow, Lowest, no_such, such, lowest_is, count-append}
+use Rattle.std.specs.Prelude.{None, Some}
+use Rattle.std.specs.Prelude as Code
 
 -- the lowest node, as the code answers it
-unfoldable pub lowest_in : Option ℕ → Lowest
-lowest_in none = Nothing
-lowest_in (some n) = At n
+unfoldable pub lowest_in : Option ℕ → Code.Option ℕ
+lowest_in none = None
+lowest_in (some n) = Some n
 
 unfoldable pub capped : ℕ → ℕ
 capped zero = 0
@@ -93,6 +96,17 @@ as_node l e k = rw e k
 pub as_none : {uses : List ℕ} (l : List ℕ) (n : Node) → children n ≡ [] → Counted uses l → Counted uses (l ++ children n)
 as_none l n e k = rw (e, append-nil l) k
 
+-- THE PLACES of the nodes, one after another
+module _ (t : Table) {i : ℕ} where
+  pub early : i < length (take t.nodes t.starts) → i < t.nodes
+  early h = omega (arith, length-take t.nodes t.starts)
+
+  pub late : length (take t.nodes t.starts) ≤ i → t.nodes ≤ length t.starts → t.nodes ≤ i
+  late h l = omega (arith, length-take t.nodes t.starts)
+
+  pub place_in : {a : ℕ} → i < length (take t.nodes t.starts) → a ≡ get_or (take t.nodes t.starts) i 0 → a ≡ get_or t.starts i 0
+  place_in h e = e ∙ get_or-take t.nodes t.starts i 0 (early h)
+
 -- THE LOWEST
 
 pub lowest_same : (p q : ℕ → Bool) (i left : ℕ) → ((n : ℕ) → i ≤ n → n < i + left → p n ≡ q n) → lowest p i left ≡ lowest q i left
@@ -117,13 +131,32 @@ module _ (p : ℕ → Bool) {i nodes : ℕ} (w : Lower p i nodes) where
     is = w.is ∙ (let z : nodes - i ≡ suc (nodes - (i + 1)) = omega arith in let y : suc i ≡ i + 1 = omega arith in rw (z, e, y));
   }
 
-  pub lower_found : i < nodes → p i ≡ true → At i ≡ lowest_in (lowest p 0 nodes)
+  pub lower_found : i < nodes → p i ≡ true → Some i ≡ lowest_in (lowest p 0 nodes)
   unfolding lowest lowest_in
   lower_found h e = let z : nodes - i ≡ suc (nodes - (i + 1)) = omega arith in rw (w.is, z, e)
 
-  pub lower_done : nodes ≤ i → Nothing ≡ lowest_in (lowest p 0 nodes)
+  pub lower_done : nodes ≤ i → None ≡ lowest_in (lowest p 0 nodes)
   unfolding lowest lowest_in
   lower_done h = let z : nodes - i ≡ 0 = omega arith in rw (w.is, z)
+
+-- the first of so many, as the code looks for it
+position_lowest : (uses : List ℕ) (n : ℕ) → n ≤ length uses
+    → position (λ m. m == 2) (take n uses) ≡ lowest_in (lowest (λ m. eqb (get_or uses m 0) 2) 0 n)
+unfolding lowest_in
+position_lowest uses n h = go (rw zero-add at (lowest_is (λ m. eqb (get_or uses m 0) 2) 0 n))
+  where
+    long : length (take n uses) ≡ n
+    long = length-take-le n uses h
+
+    before : (i : ℕ) → i ≤ n → NoneBelow (λ m. eqb (get_or uses m 0) 2) 0 i → (i < n → eqb (get_or uses i 0) 2 ≡ true)
+        → position_or_len (λ m. m == 2) (take n uses) ≡ i
+    before i l f g = position_or_len_is (λ m. m == 2) (take n uses) i 0 (omega (arith, long))
+        (λ k d. rw (get_or-take n uses k 0 (omega arith)) (f k (omega arith) d))
+        λ d. rw (get_or-take n uses i 0 (omega (arith, long))) (g (omega (arith, long)))
+
+    go : {o : Option ℕ} → Lowest (λ m. eqb (get_or uses m 0) 2) 0 n o → position (λ m. m == 2) (take n uses) ≡ lowest_in o
+    go (no_such f) = rw (before n (omega arith) f (λ d. absurd (omega arith)), long, le-ltb n n (omega arith))
+    go (such {n = m} a l t f) = rw (before m (omega arith) f (λ d. t), long, lt-ltb m n l)
 
 -- THE USES OF A SHEET
 
@@ -168,8 +201,9 @@ module _ {s : List ℕ} {t : Table} {sh : Sheet} (r : Reads s t sh) where
       let z : i + 1 ≡ suc i = omega arith in let q = e ∙ r.node i (omega (arith, r.nodes)) in
       rw z (rw q at k)
 
-  pub used_told : {uses : List ℕ} {i : ℕ} {a : Lowest} → i ≤ t.nodes → t.nodes ≤ i → Counted uses (used sh i)
-      → a ≡ lowest_in (lowest (λ n. eqb (get_or uses n 0) 2) 0 t.nodes) → a ≡ lowest_in (lowest (twice sh) 0 (length sh.nodes))
-  used_told {uses} {i} l g k e =
-      let q : i ≡ length sh.nodes = omega (arith, r.nodes) in
-      (rw r.nodes at e) ∙ ap lowest_in (twice_found sh r.ranges.few_nodes (rw q at k))
+  pub used_told : {uses : List ℕ} {i : ℕ} {a : Code.Option ℕ} → t.nodes ≤ i → i ≤ length (take t.nodes t.starts) → Counted uses (used sh i)
+      → a ≡ position (λ n. n == 2) (take t.nodes uses) → a ≡ lowest_in (lowest (twice sh) 0 (length sh.nodes))
+  used_told {uses} {i} g l k e =
+      let q : i ≡ length sh.nodes = omega (arith, r.nodes, length-take t.nodes t.starts) in
+      let f = r.ranges.few_nodes in
+      e ∙ position_lowest uses t.nodes (omega (arith, k.long, r.nodes)) ∙ ap lowest_in (rw r.nodes (twice_found sh f (rw q at k)))

@@ -1,5 +1,5 @@
 //! Nodes that do not have their lent type.
-ghost use Rattle.std.specs.Prelude.{◌≡◌, ℕ, ◌+◌, ◌*◌, ◌≤◌, ◌<◌, length, get_or, List};
+ghost use Rattle.std.specs.Prelude.{◌≡◌, ◌==◌, ℕ, ◌+◌, ◌*◌, ◌≤◌, ◌<◌, length, get_or, List};
 ghost use Rattle.std.proofs.Math.ListN.{get_elem?};
 ghost use Rattle.typing.specs.Types.{Ty};
 ghost use Rattle.typing.specs.Fits.{Lent as Types, Scope};
@@ -9,16 +9,12 @@ ghost use Rattle.types.specs.Unfit.{Ready};
 ghost use Rattle.types.specs.Uses.{lowest_in};
 ghost use Rattle.sheet.specs.Sheet.{Sheet};
 ghost use Rattle.types.specs.Slots.{At};
-ghost use Rattle.types.specs.Scopes.{Scoped};
+ghost use Rattle.types.specs.Scopes.{Entry, StandsIn};
 ghost use Rattle.types.specs.Decided.{holds, Fitted};
 ghost use Rattle.node.specs.Kinds.{row};
 
-use crate::Lowest;
-use crate::lent::{
-    LISTS, NODES, NUMBERS, PAIRS, PAST, SECTIONS, TRUTHS, VIEW, is_list_of, is_pair_of, is_same,
-    kind_in, type_in,
-};
-use crate::scopes::{place_children, place_roots, variable};
+use crate::lent::{Kind, Lent, NODES, PAST, SECTIONS, VIEW};
+use crate::scopes::{View, place_children, place_roots, variable};
 use node::Node;
 use sheet::Table;
 
@@ -41,28 +37,21 @@ fn of_section(c: usize, which: usize) -> usize
     }
 }
 
-// Whether variable x of the scope has the type in the slot.
-fn is_typed(
-    types: &[u8],
-    starts: &[u16; 242],
-    stand: &[u32; 200],
-    scope: u32,
-    x: usize,
-    slot: usize,
-) -> bool
-    requires { (Γ : Scope) × Scoped types.now starts.now stand.now scope Γ }
-    ensures { (Γ : Scope) (t : Ty) → Scoped types.now starts.now stand.now scope Γ
-        → At types.now starts.now slot t → result ≡ holds (at? (get_elem? Γ x) t) }
+// Whether variable x of the scope of node i has the type in the slot.
+fn is_typed(lent: Lent, stand: &[Option<View>; 200], i: usize, x: usize, slot: usize) -> bool
+    requires { (i < 200) × ((Γ : Scope) × StandsIn lent.types.now lent.starts.now stand.now i Γ) }
+    ensures { (Γ : Scope) (t : Ty) → StandsIn lent.entry.types.now lent.entry.starts.now stand.now i Γ
+        → At lent.entry.types.now lent.entry.starts.now slot t → result ≡ holds (at? (get_elem? Γ x) t) }
 {
-    shapes::same(
-        variable(types, starts, stand, scope, x),
-        type_in(types, starts, slot),
-    )
+    match variable(lent, stand, i, x) {
+        Some(t) => shapes::same(t, lent.type_in(slot)),
+        None => false,
+    }
 }
 
 // Whether node i, which is n, has its lent type, where it is a case on a list.
-fn fits_list_case(types: &[u8], starts: &[u16; 242], n: Node, i: usize) -> bool
-    ensures { (stand : List ℕ) → (row n).kind ≡ 0x17 → Fitted types.now starts.now stand i n result }
+fn fits_list_case(lent: Lent, n: Node, i: usize) -> bool
+    ensures { (stand : List Entry) → (row n).kind ≡ 0x17 → Fitted lent.entry.types.now lent.entry.starts.now stand i n result }
 {
     let Node::ListCase {
         subject,
@@ -77,15 +66,15 @@ fn fits_list_case(types: &[u8], starts: &[u16; 242], n: Node, i: usize) -> bool
     };
     let s = of_node(subject);
     let t = of_node(i);
-    is_list_of(types, starts, s, of_node(first))
-        & is_same(types, starts, of_node(rest), s)
-        & is_same(types, starts, of_node(empty), t)
-        & is_same(types, starts, of_node(front), t)
+    lent.is_list_of(s, of_node(first))
+        & lent.is_same(of_node(rest), s)
+        & lent.is_same(of_node(empty), t)
+        & lent.is_same(of_node(front), t)
 }
 
 // The same of a case on a truth.
-fn fits_truth_case(types: &[u8], starts: &[u16; 242], n: Node, i: usize) -> bool
-    ensures { (stand : List ℕ) → (row n).kind ≡ 0x18 → Fitted types.now starts.now stand i n result }
+fn fits_truth_case(lent: Lent, n: Node, i: usize) -> bool
+    ensures { (stand : List Entry) → (row n).kind ≡ 0x18 → Fitted lent.entry.types.now lent.entry.starts.now stand i n result }
 {
     let Node::TruthCase {
         subject,
@@ -97,15 +86,15 @@ fn fits_truth_case(types: &[u8], starts: &[u16; 242], n: Node, i: usize) -> bool
         return false;
     };
     let t = of_node(i);
-    (kind_in(types, starts, of_node(subject)) == TRUTHS)
-        & is_same(types, starts, of_node(no), t)
-        & is_same(types, starts, of_node(yes), t)
+    lent.is_of(of_node(subject), Kind::Truths)
+        & lent.is_same(of_node(no), t)
+        & lent.is_same(of_node(yes), t)
 }
 
 // The same of a call.
-fn fits_call(types: &[u8], starts: &[u16; 242], stand: &[u32; 200], n: Node, i: usize) -> bool
-    requires { (i < 200) × ((Γ : Scope) × Scoped types.now starts.now stand.now (get_or stand.now i 0) Γ) }
-    ensures { (row n).kind ≡ 0x1A → Fitted types.now starts.now stand.now i n result }
+fn fits_call(lent: Lent, stand: &[Option<View>; 200], n: Node, i: usize) -> bool
+    requires { (i < 200) × ((Γ : Scope) × StandsIn lent.types.now lent.starts.now stand.now i Γ) }
+    ensures { (row n).kind ≡ 0x1A → Fitted lent.entry.types.now lent.entry.starts.now stand.now i n result }
 {
     let Node::Call {
         section,
@@ -115,16 +104,15 @@ fn fits_call(types: &[u8], starts: &[u16; 242], stand: &[u32; 200], n: Node, i: 
     else {
         return false;
     };
-    let scope = stand[i];
-    is_typed(types, starts, stand, scope, first, of_section(section, 0))
-        & is_typed(types, starts, stand, scope, second, of_section(section, 1))
-        & is_same(types, starts, of_node(i), of_section(section, 2))
+    is_typed(lent, stand, i, first, of_section(section, 0))
+        & is_typed(lent, stand, i, second, of_section(section, 1))
+        & lent.is_same(of_node(i), of_section(section, 2))
 }
 
 // The same of an each.
-fn fits_each(types: &[u8], starts: &[u16; 242], stand: &[u32; 200], n: Node, i: usize) -> bool
-    requires { (i < 200) × ((Γ : Scope) × Scoped types.now starts.now stand.now (get_or stand.now i 0) Γ) }
-    ensures { (row n).kind ≡ 0x1C → Fitted types.now starts.now stand.now i n result }
+fn fits_each(lent: Lent, stand: &[Option<View>; 200], n: Node, i: usize) -> bool
+    requires { (i < 200) × ((Γ : Scope) × StandsIn lent.types.now lent.starts.now stand.now i Γ) }
+    ensures { (row n).kind ≡ 0x1C → Fitted lent.entry.types.now lent.entry.starts.now stand.now i n result }
 {
     let Node::Each {
         subject,
@@ -135,117 +123,92 @@ fn fits_each(types: &[u8], starts: &[u16; 242], stand: &[u32; 200], n: Node, i: 
     else {
         return false;
     };
-    let scope = stand[i];
     let first = of_section(section, 0);
-    is_list_of(types, starts, of_node(subject), first)
-        & is_same(types, starts, of_node(default), first)
-        & is_typed(
-            types,
-            starts,
-            stand,
-            scope,
-            variable,
-            of_section(section, 1),
-        )
-        & is_list_of(types, starts, of_node(i), of_section(section, 2))
+    lent.is_list_of(of_node(subject), first)
+        & lent.is_same(of_node(default), first)
+        & is_typed(lent, stand, i, variable, of_section(section, 1))
+        & lent.is_list_of(of_node(i), of_section(section, 2))
 }
 
 // Whether node i, which is n, has its lent type in its scope, by the types that its children have been lent.
-fn fits(types: &[u8], starts: &[u16; 242], stand: &[u32; 200], n: Node, i: usize) -> bool
-    requires { (i < 200) × ((Γ : Scope) × Scoped types.now starts.now stand.now (get_or stand.now i 0) Γ) }
-    ensures { Fitted types.now starts.now stand.now i n result }
+fn fits(lent: Lent, stand: &[Option<View>; 200], n: Node, i: usize) -> bool
+    requires { (i < 200) × ((Γ : Scope) × StandsIn lent.types.now lent.starts.now stand.now i Γ) }
+    ensures { Fitted lent.entry.types.now lent.entry.starts.now stand.now i n result }
 {
     let t = of_node(i);
     match n {
-        Node::Var(x) => is_typed(types, starts, stand, stand[i], x, t),
-        Node::False => kind_in(types, starts, t) == TRUTHS,
-        Node::True => kind_in(types, starts, t) == TRUTHS,
-        Node::Empty => kind_in(types, starts, t) == LISTS,
-        Node::Number(_) => kind_in(types, starts, t) == NUMBERS,
+        Node::Var(x) => is_typed(lent, stand, i, x, t),
+        Node::False => lent.is_of(t, Kind::Truths),
+        Node::True => lent.is_of(t, Kind::Truths),
+        Node::Empty => lent.is_of(t, Kind::Lists),
+        Node::Number(_) => lent.is_of(t, Kind::Numbers),
         Node::Front { first, rest } => {
-            is_list_of(types, starts, t, of_node(first)) & is_same(types, starts, of_node(rest), t)
+            lent.is_list_of(t, of_node(first)) & lent.is_same(of_node(rest), t)
         }
-        Node::Pair { left, right } => is_pair_of(types, starts, t, of_node(left), of_node(right)),
-        Node::ListCase { .. } => fits_list_case(types, starts, n, i),
-        Node::TruthCase { .. } => fits_truth_case(types, starts, n, i),
+        Node::Pair { left, right } => lent.is_pair_of(t, of_node(left), of_node(right)),
+        Node::ListCase { .. } => fits_list_case(lent, n, i),
+        Node::TruthCase { .. } => fits_truth_case(lent, n, i),
         Node::Split { subject, inner } => {
-            (kind_in(types, starts, of_node(subject)) == PAIRS)
-                & is_same(types, starts, of_node(inner), t)
+            lent.is_of(of_node(subject), Kind::Pairs) & lent.is_same(of_node(inner), t)
         }
-        Node::Call { .. } => fits_call(types, starts, stand, n, i),
+        Node::Call { .. } => fits_call(lent, stand, n, i),
         Node::Add { node, .. } => {
-            (kind_in(types, starts, t) == NUMBERS)
-                & (kind_in(types, starts, of_node(node)) == NUMBERS)
+            lent.is_of(t, Kind::Numbers) & lent.is_of(of_node(node), Kind::Numbers)
         }
-        Node::Each { .. } => fits_each(types, starts, stand, n, i),
-        Node::Wide(_) => kind_in(types, starts, t) == NUMBERS,
+        Node::Each { .. } => fits_each(lent, stand, n, i),
+        Node::Wide(_) => lent.is_of(t, Kind::Numbers),
     }
 }
 
-// Whether node i has the type in the slot, where that is asked.
-fn is_asked(types: &[u8], starts: &[u16; 242], i: usize, slot: usize, here: bool) -> bool
+// Whether node i, where it is this root, has the type in the slot.
+fn is_asked(lent: Lent, i: usize, slot: usize, root: usize) -> bool
     requires { i < 200 }
-    ensures { result ≡ asked types.now starts.now i slot here }
+    ensures { result ≡ asked lent.entry.types.now lent.entry.starts.now i slot (root == i) }
 {
-    if here {
-        return is_same(types, starts, NODES + i, slot);
+    if root != i {
+        return true;
     }
-    true
+    lent.is_same(NODES + i, slot)
 }
 
 // Whether node i, where it is a root, has the type that is asked there.
-fn is_placed(
-    sheet: &[u8],
-    root: usize,
-    sections: usize,
-    types: &[u8],
-    starts: &[u16; 242],
-    i: usize,
-) -> bool
+fn is_placed(sheet: &[u8], root: usize, sections: usize, lent: Lent, i: usize) -> bool
     requires { (i < 200) × (sections ≤ 8) }
-    ensures { (sh : Sheet) (ts : Types) → Rooted sheet.now types.now starts.now root sections i sh ts
+    ensures { (sh : Sheet) (ts : Types) → Rooted sheet.now lent.entry.types.now lent.entry.starts.now root sections i sh ts
         → result ≡ holds (placed? sh ts i) }
 {
-    if !is_asked(types, starts, i, VIEW, root == i) {
+    if !is_asked(lent, i, VIEW, root) {
         return false;
     }
-    let mut c: usize = 0;
-    while c < sections {
-        let here = sheet::section_root(sheet, c) == i;
-        if !is_asked(types, starts, i, of_section(c, 2), here) {
+    for c in 0..sections {
+        if !is_asked(lent, i, of_section(c, 2), sheet::section_root(sheet, c)) {
             return false;
         }
-        c += 1;
     }
     true
 }
 
 // The lowest node that is reached from a root and does not have its lent type. A node stands behind those that name it, so that its scope is known
 // where it is met.
-pub fn first_unfit(sheet: &[u8], t: Table, types: &[u8], starts: &[u16; 242]) -> Lowest
-    requires { Ready sheet.now t types.now starts.now }
-    ensures { (g : Ready sheet.now t types.now starts.now)
+pub fn first_unfit(sheet: &[u8], t: Table, lent: Lent) -> Option<usize>
+    requires { Ready sheet.now t lent.types.now lent.starts.now }
+    ensures { (g : Ready sheet.now t lent.entry.types.now lent.entry.starts.now)
         → result ≡ lowest_in (lowest (unfit g.sh g.ts) 0 (length g.sh.nodes)) }
 {
-    let mut stand = [0u32; 200];
+    let mut stand = [None; 200];
     place_roots(&mut stand, sheet, t.k, t.root, t.sections);
-    let mut i: usize = 0;
-    while i < t.nodes {
-        let scope = stand[i];
-        if scope == 0 {
-            i += 1;
+    for i in 0..t.nodes {
+        let Some(view) = stand[i] else {
             continue;
+        };
+        let n = node::node_at(sheet, usize::from(t.starts[i]));
+        if !fits(lent, &stand, n, i) {
+            return Some(i);
         }
-        let at = t.starts[i] as usize;
-        let n = node::node_at(sheet, at);
-        if !fits(types, starts, &stand, n, i) {
-            return Lowest::At(i);
+        if !is_placed(sheet, t.root, t.sections, lent, i) {
+            return Some(i);
         }
-        if !is_placed(sheet, t.root, t.sections, types, starts, i) {
-            return Lowest::At(i);
-        }
-        place_children(&mut stand, n, i, scope);
-        i += 1;
+        place_children(&mut stand, n, i, view);
     }
-    Lowest::Nothing
+    None
 }

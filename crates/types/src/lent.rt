@@ -2,8 +2,8 @@
 //!
 //! A slot for each type that a sheet may ask for: 0 to 15 the plan's variables, 16 to 39 the sections, three each, 40 the view, and from 41 on
 //! the nodes. A type's bytes are those from its slot's start up to the next slot's start; a slot that is not lent has none.
-ghost use Rattle.std.specs.Prelude.{false, cond, ◌∷◌, ◌++◌, ◌≡◌, ◌+◌, ◌≤◌, ◌<◌, get_or};
-ghost use Rattle.types.specs.Slots.{type_len, part_at, lent_below, TypesRead};
+ghost use Rattle.std.specs.Prelude.{false, cond, ◌∷◌, ◌++◌, ◌≡◌, ◌==◌, ◌+◌, ◌≤◌, ◌<◌, get_or, IsSomeAnd};
+ghost use Rattle.types.specs.Slots.{kind_named, byte_of, owed_behind, type_len, part_at, lent_below, TypesRead};
 ghost use Rattle.typing.specs.Types.{Ty};
 ghost use Rattle.typing.specs.Fits.{added};
 ghost use Rattle.typing.specs.Written.{bytes_of, Short};
@@ -12,15 +12,6 @@ ghost use Rattle.shapes.specs.Parts.{same_bytes};
 
 // The most bytes of one type.
 const LONGEST: usize = 256;
-
-// The kinds of types.
-pub const TRUTHS: u8 = 0x30;
-
-pub const NUMBERS: u8 = 0x31;
-
-pub const LISTS: u8 = 0x32;
-
-pub const PAIRS: u8 = 0x33;
 
 // The slots: of the sections' types, the view's and the nodes', and the one behind the last.
 pub const SECTIONS: usize = 16;
@@ -31,51 +22,66 @@ pub const NODES: usize = 41;
 
 pub const PAST: usize = 241;
 
-/// Where the types of all slots start, and behind them where the last one ends; not fine: 80.
+/// The kinds of types.
 #[derive(Clone, Copy, Debug, PartialEq, Eq)]
-pub struct Lent {
-    pub fine: bool,
-    pub starts: [u16; 242],
+pub enum Kind {
+    Truths,
+    Numbers,
+    Lists,
+    Pairs,
 }
 
-// A start as a number of bytes.
-fn extend(start: u16) -> usize
-    ensures { result ≡ start }
+impl Kind {
+    // The byte that types of the kind begin with.
+    fn byte(self) -> u8
+        ensures { result ≡ byte_of self }
+    {
+        match self {
+            Kind::Truths => 0x30,
+            Kind::Numbers => 0x31,
+            Kind::Lists => 0x32,
+            Kind::Pairs => 0x33,
+        }
+    }
+}
+
+// The kind of the types that begin with the byte.
+fn kind_of(byte: u8) -> Option<Kind>
+    ensures { result ≡ kind_named byte }
 {
-    start as usize
+    match byte {
+        0x30 => Some(Kind::Truths),
+        0x31 => Some(Kind::Numbers),
+        0x32 => Some(Kind::Lists),
+        0x33 => Some(Kind::Pairs),
+        _ => None,
+    }
 }
 
-// The length of the type that the bytes begin with; 0 where they begin with none of at most 256 bytes. A list owes a type in place of its own, a pair two.
-fn type_len(s: &[u8]) -> usize
+// How many types are owed behind a byte of the kind, of so many in front of it: a list owes a type in place of its own, a pair two.
+fn owed_behind(kind: Kind, owed: usize) -> usize
+    requires { (1 ≤ owed) × (owed ≤ 256) }
+    ensures { result ≡ owed_behind kind owed }
+{
+    match kind {
+        Kind::Truths | Kind::Numbers => owed - 1,
+        Kind::Lists => owed,
+        Kind::Pairs => owed + 1,
+    }
+}
+
+// The length of the type that the bytes begin with, where they begin with one of at most 256 bytes.
+fn type_len(s: &[u8]) -> Option<usize>
     ensures { result ≡ type_len s.now }
 {
-    let mut at = 0;
-    let mut owed: usize = 1;
-    while owed != 0 {
-        if s.len() <= at {
-            return 0;
+    let mut owed = 1;
+    for (at, &byte) in s[..s.len().min(LONGEST)].iter().enumerate() {
+        owed = owed_behind(kind_of(byte)?, owed);
+        if owed == 0 {
+            return Some(at + 1);
         }
-        if LONGEST <= at {
-            return 0;
-        }
-        let kind = s[at];
-        if kind < TRUTHS {
-            return 0;
-        }
-        at += 1;
-        if kind < LISTS {
-            owed -= 1;
-            continue;
-        }
-        if kind == LISTS {
-            continue;
-        }
-        if kind != PAIRS {
-            return 0;
-        }
-        owed += 1;
     }
-    at
+    None
 }
 
 // Whether a type is lent for the slot.
@@ -92,129 +98,109 @@ fn is_lent(slot: usize, k: usize, sections: usize, nodes: usize) -> bool
     slot - VIEW <= nodes
 }
 
-// The length of the type that the bytes begin with, where one is lent; 0 where none is.
-fn len_if(lent: bool, s: &[u8]) -> usize
-    ensures { result ≡ cond lent (type_len s.now) 0 }
-{
-    if lent {
-        return type_len(s);
-    }
-    0
-}
-
-// The types of all slots, one after another, and nothing behind them.
-pub fn read_types(types: &[u8], k: usize, sections: usize, nodes: usize) -> Lent
+// Where the types of all slots start, and behind them where the last one ends, if the bytes are those types one after another and nothing behind them.
+pub fn read_types(types: &[u8], k: usize, sections: usize, nodes: usize) -> Option<[u16; 242]>
     requires { (k ≤ 16) × (sections ≤ 8) }
-    ensures { TypesRead types.now (lent_below k sections nodes) result.fine result.starts }
+    ensures { TypesRead types.now (lent_below k sections nodes) result }
 {
     let mut starts = [0u16; 242];
     let mut at = 0;
-    let mut slot = 0;
-    while slot < PAST {
-        let lent = is_lent(slot, k, sections, nodes);
-        let n = len_if(lent, &types[at..]);
-        if lent & (n == 0) {
-            return Lent {
-                fine: false,
-                starts,
-            };
+    for slot in 0..PAST {
+        if is_lent(slot, k, sections, nodes) {
+            at += type_len(&types[at..])?;
         }
-        at += n;
-        slot += 1;
-        starts[slot] = at as u16;
+        starts[slot + 1] = at as u16;
     }
-    Lent {
-        fine: at == types.len(),
-        starts,
-    }
+    (at == types.len()).then_some(starts)
 }
 
-// The type in a slot.
-pub fn type_in<'a>(types: &'a [u8], starts: &[u16; 242], slot: usize) -> &'a [u8]
-    ensures { result.now ≡ part_at types.now starts.now slot }
-{
-    if PAST <= slot {
-        return &types[..0];
-    }
-    let start = extend(starts[slot]);
-    let end = extend(starts[slot + 1]);
-    if end < start {
-        return &types[..0];
-    }
-    if types.len() < end {
-        return &types[..0];
-    }
-    &types[start..end]
+/// Types that are lent: their bytes, and where those of each slot start.
+#[derive(Clone, Copy, Debug, PartialEq, Eq)]
+pub struct Lent<'a> {
+    pub types: &'a [u8],
+    pub starts: &'a [u16; 242],
 }
 
-// The kind of the type in a slot; 0 where there is none.
-pub fn kind_in(types: &[u8], starts: &[u16; 242], slot: usize) -> u8
-    ensures { result ≡ get_or (part_at types.now starts.now slot) 0 0 }
-{
-    let t = type_in(types, starts, slot);
-    if t.len() == 0 {
-        return 0;
+impl<'a> Lent<'a> {
+    // The type in a slot.
+    pub fn type_in(self, slot: usize) -> &'a [u8]
+        ensures { result.now ≡ part_at self.entry.types.now self.entry.starts.now slot }
+    {
+        if PAST <= slot {
+            return &self.types[..0];
+        }
+        let start = usize::from(self.starts[slot]);
+        let end = usize::from(self.starts[slot + 1]);
+        if end < start {
+            return &self.types[..0];
+        }
+        if self.types.len() < end {
+            return &self.types[..0];
+        }
+        &self.types[start..end]
     }
-    t[0]
-}
 
-// Whether the types in two slots are the same.
-pub fn is_same(types: &[u8], starts: &[u16; 242], a: usize, b: usize) -> bool
-    ensures { result ≡ same_bytes (part_at types.now starts.now a) (part_at types.now starts.now b) }
-{
-    shapes::same(type_in(types, starts, a), type_in(types, starts, b))
-}
+    // Whether the type in a slot is of the kind.
+    pub fn is_of(self, slot: usize, kind: Kind) -> bool
+        ensures { result ≡ (get_or (part_at self.entry.types.now self.entry.starts.now slot) 0 0 == byte_of kind) }
+    {
+        match self.type_in(slot) {
+            [first, ..] => *first == kind.byte(),
+            [] => false,
+        }
+    }
 
-// Whether the type in slot t is that of lists of the type in slot a.
-pub fn is_list_of(types: &[u8], starts: &[u16; 242], t: usize, a: usize) -> bool
-    ensures { result ≡ same_bytes (part_at types.now starts.now t) (0x32 ∷ part_at types.now starts.now a) }
-{
-    let list = type_in(types, starts, t);
-    if list.len() == 0 {
-        return false;
+    // Whether the types in two slots are the same.
+    pub fn is_same(self, a: usize, b: usize) -> bool
+        ensures { result ≡ same_bytes (part_at self.entry.types.now self.entry.starts.now a) (part_at self.entry.types.now self.entry.starts.now b) }
+    {
+        shapes::same(self.type_in(a), self.type_in(b))
     }
-    if list[0] != LISTS {
-        return false;
-    }
-    shapes::same(&list[1..], type_in(types, starts, a))
-}
 
-// Whether the type in slot t is that of pairs of the types in slots a and b.
-pub fn is_pair_of(types: &[u8], starts: &[u16; 242], t: usize, a: usize, b: usize) -> bool
-    ensures { result ≡ same_bytes (part_at types.now starts.now t)
-        (0x33 ∷ (part_at types.now starts.now a ++ part_at types.now starts.now b)) }
-{
-    let pair = type_in(types, starts, t);
-    let first = type_in(types, starts, a);
-    if pair.len() <= first.len() {
-        return false;
+    // Whether the type in slot t is that of lists of the type in slot a.
+    pub fn is_list_of(self, t: usize, a: usize) -> bool
+        ensures { result ≡ same_bytes (part_at self.entry.types.now self.entry.starts.now t) (0x32 ∷ part_at self.entry.types.now self.entry.starts.now a) }
+    {
+        let [first, rest @ ..] = self.type_in(t) else {
+            return false;
+        };
+        if *first != Kind::Lists.byte() {
+            return false;
+        }
+        shapes::same(rest, self.type_in(a))
     }
-    if pair[0] != PAIRS {
-        return false;
+
+    // Whether the type in slot t is that of pairs of the types in slots a and b.
+    pub fn is_pair_of(self, t: usize, a: usize, b: usize) -> bool
+        ensures { result ≡ same_bytes (part_at self.entry.types.now self.entry.starts.now t)
+            (0x33 ∷ (part_at self.entry.types.now self.entry.starts.now a ++ part_at self.entry.types.now self.entry.starts.now b)) }
+    {
+        let pair = self.type_in(t);
+        let first = self.type_in(a);
+        if pair.len() <= first.len() {
+            return false;
+        }
+        if pair[0] != Kind::Pairs.byte() {
+            return false;
+        }
+        let middle = 1 + first.len();
+        if !shapes::same(&pair[1..middle], first) {
+            return false;
+        }
+        shapes::same(&pair[middle..], self.type_in(b))
     }
-    let middle = 1 + first.len();
-    if !shapes::same(&pair[1..middle], first) {
-        return false;
-    }
-    shapes::same(&pair[middle..], type_in(types, starts, b))
 }
 
 // The two variables that a case on this type adds: the first member and the rest of a list, the parts of a pair.
-pub fn part_of(t: &[u8], second: bool) -> &[u8]
-    ensures { (u a b : Ty) → t.now ≡ bytes_of u → Short u → added u ≡ two a b → result.now ≡ bytes_of (cond second b a) }
+pub fn parts_of(t: &[u8]) -> Option<(&[u8], &[u8])>
+    ensures { (u a b : Ty) → t.now ≡ bytes_of u → Short u → added u ≡ two a b
+        → IsSomeAnd result (λ p. (p.0.now ≡ bytes_of a) × (p.1.now ≡ bytes_of b)) }
 {
-    if t.len() == 0 {
-        return &t[..0];
+    let [first, inside @ ..] = t else {
+        return None;
+    };
+    match kind_of(*first)? {
+        Kind::Pairs => Some(inside.split_at(type_len(inside)?)),
+        _ => Some((inside, t)),
     }
-    if t[0] != PAIRS {
-        if second {
-            return t;
-        }
-        return &t[1..];
-    }
-    let middle = 1 + type_len(&t[1..]);
-    if second {
-        return &t[middle..];
-    }
-    &t[1..middle]
 }

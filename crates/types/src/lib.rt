@@ -3,7 +3,7 @@
 
 ghost use Rattle.std.specs.Prelude.{◌≡◌};
 ghost use Rattle.typing.specs.Check as Checks;
-ghost use Rattle.types.specs.Checked.{checked};
+ghost use Rattle.types.specs.Checked.{about_none, verdict_of};
 
 mod fits;
 mod lent;
@@ -11,44 +11,52 @@ mod scopes;
 mod uses;
 
 use crate::fits::first_unfit;
-use crate::lent::read_types;
+use crate::lent::{Lent, read_types};
 use crate::uses::first_used_twice;
+use refusal::Refusal;
 
-/// What the check says: the sheet passes; a refusal's number; or 81 or 82 with the lowest node that it is about.
+/// Why a sheet does not pass: the refusal; and of 81 and 82 the lowest node that it is about.
 #[derive(Clone, Copy, Debug, PartialEq, Eq)]
-pub enum Checked {
-    Passes,
-    Refused(u8),
-    At { refusal: u8, node: usize },
+pub struct Misfit {
+    pub refusal: Refusal,
+    pub node: Option<usize>,
 }
 
-/// The lowest node of which something holds.
-#[derive(Clone, Copy, Debug, PartialEq, Eq)]
-pub enum Lowest {
-    At(usize),
-    Nothing,
+impl From<Refusal> for Misfit {
+    ghost from_gives = { λ r m. m ≡ about_none r };
+
+    fn from(refusal: Refusal) -> Misfit {
+        Misfit {
+            refusal,
+            node: None,
+        }
+    }
 }
 
-/// Check a sheet against the types that are lent beside it: the sheet's own refusals; 80 where the types are malformed, too long, too few or
-/// too many; 81 with the lowest node that is used twice; 82 with the lowest node that is reached and does not have its lent type.
-pub fn check(sheet: &[u8], types: &[u8]) -> Checked
-    ensures { result ≡ checked (Checks.check sheet.now types.now) }
+/// Check a sheet against the types that are lent beside it. Refusals: the sheet's own (10 to 14); 80 where the types are malformed, too long,
+/// too few or too many; 81 with the lowest node that is used twice; 82 with the lowest node that is reached and does not have its lent type.
+pub fn check(sheet: &[u8], types: &[u8]) -> Result<(), Misfit>
+    ensures { verdict_of result ≡ Checks.check sheet.now types.now }
 {
-    let table = sheet::read_sheet(sheet);
-    if table.refusal != 0 {
-        return Checked::Refused(table.refusal);
+    let table = sheet::read_sheet(sheet)?;
+    let Some(starts) = read_types(types, table.k, table.sections, table.nodes) else {
+        return Err(Misfit::from(Refusal::TypesMalformed));
+    };
+    if let Some(node) = first_used_twice(sheet, table) {
+        return Err(Misfit {
+            refusal: Refusal::NodeTwice,
+            node: Some(node),
+        });
     }
-    let lent = read_types(types, table.k, table.sections, table.nodes);
-    if !lent.fine {
-        return Checked::Refused(80);
+    let lent = Lent {
+        types,
+        starts: &starts,
+    };
+    if let Some(node) = first_unfit(sheet, table, lent) {
+        return Err(Misfit {
+            refusal: Refusal::NodeType,
+            node: Some(node),
+        });
     }
-    match first_used_twice(sheet, table) {
-        Lowest::At(node) => return Checked::At { refusal: 81, node },
-        Lowest::Nothing => {}
-    }
-    let starts = lent.starts;
-    match first_unfit(sheet, table, types, &starts) {
-        Lowest::At(node) => Checked::At { refusal: 82, node },
-        Lowest::Nothing => Checked::Passes,
-    }
+    Ok(())
 }

@@ -1,75 +1,105 @@
-//! Scopes, each as one number: 512 for each variable, and below that how they are found. From 0 to 255: their types stand in the slots from this
-//! one on. From 256 on: the scope of the node with this number less 256, and two variables more, the parts of that node's type. 0: no scope yet.
-ghost use Rattle.std.specs.Prelude.{◌≡◌, List, [], ◌∷◌, ℕ, ◌+◌, ◌*◌, ◌/◌, ◌%◌, ◌≤◌, ◌<◌};
+//! Scopes: how many variables, and where their types are found. A node stands in the first scope that it is put into.
+ghost use Rattle.std.specs.Prelude.{◌≡◌, List, [], ◌∷◌, ℕ, ◌+◌, ◌*◌, ◌≤◌, ◌<◌, MatchOption};
+ghost use Rattle.std.proofs.Math.Option.{none};
 ghost use Rattle.std.proofs.Math.ListN.{get_elem?};
 ghost use Rattle.node.specs.Kinds.{row};
 ghost use Rattle.typing.specs.Fits.{Scope};
-ghost use Rattle.types.specs.Scopes.{Scoped, bytes_or, widen, view_of, Put, PutAll, child_scopes, section_scopes, subject};
+ghost use Rattle.types.specs.Scopes.{StandsIn, IsType, slots, widen, view_of, Put, PutAll, child_scopes, section_scopes};
 ghost use Rattle.types.specs.Uses.{Roots};
 
-use crate::lent::{NODES, SECTIONS, part_of, type_in};
+use crate::lent::{Lent, NODES, SECTIONS, parts_of};
 use node::Node;
 
-// A scope without variables, that of a default of 1C.
-const ALONE: u32 = 1;
+/// Where the types of a scope's variables are found.
+#[derive(Clone, Copy, Debug, PartialEq, Eq)]
+pub enum Found {
+    /// In the slots from this one on.
+    From(usize),
+    /// In the scope of this node; and two variables more have the parts of its type.
+    Inside(usize),
+}
+
+/// A scope: how many variables it has, and where their types are found.
+#[derive(Clone, Copy, Debug, PartialEq, Eq)]
+pub struct View {
+    pub width: usize,
+    pub found: Found,
+}
+
+// So many variables, whose types stand in the slots from this one on.
+fn slots(width: usize, slot: usize) -> View
+    ensures { result ≡ slots width slot }
+{
+    View {
+        width,
+        found: Found::From(slot),
+    }
+}
 
 // One variable alone, the view of node i.
-fn view_of(i: usize) -> u32
+fn view_of(i: usize) -> View
     requires { i < 200 }
     ensures { result ≡ view_of i }
 {
-    512 + (NODES + i) as u32
+    slots(1, NODES + i)
 }
 
-// The scope, and two variables more: the parts of the type of node `subject`.
-fn widened(scope: u32, subject: usize) -> u32
-    requires { (scope < 256000) × (subject < 200) }
-    ensures { result ≡ widen scope subject }
+// The scope of node `subject`, and two variables more: the parts of its type.
+fn widened(view: View, subject: usize) -> View
+    requires { view.width < 1000 }
+    ensures { result ≡ widen view subject }
 {
-    512 * (scope / 512 + 2) + 256 + subject as u32
+    View {
+        width: view.width + 2,
+        found: Found::Inside(subject),
+    }
 }
 
 // Node n stands in this scope, unless it stands in one already.
-fn place(stand: &mut [u32; 200], n: usize, scope: u32)
-    ensures { Put stand.old n scope stand.new }
+fn place(stand: &mut [Option<View>; 200], n: usize, view: View)
+    ensures { Put stand.old n view stand.new }
 {
     if n < 200 {
-        if stand[n] == 0 {
-            stand[n] = scope;
+        if stand[n].is_none() {
+            stand[n] = Some(view);
         }
     }
 }
 
 // Two.
-fn place_two(stand: &mut [u32; 200], a: usize, b: usize, scope: u32)
-    ensures { PutAll stand.old ((a, scope) ∷ (b, scope) ∷ []) stand.new }
+fn place_two(stand: &mut [Option<View>; 200], a: usize, b: usize, view: View)
+    ensures { PutAll stand.old ((a, view) ∷ (b, view) ∷ []) stand.new }
 {
-    place(stand, a, scope);
-    place(stand, b, scope);
+    place(stand, a, view);
+    place(stand, b, view);
 }
 
 // The roots: the main one in the plan's scope, and that of each section in the scope of its two variables.
-pub fn place_roots(stand: &mut [u32; 200], sheet: &[u8], k: usize, root: usize, sections: usize)
+pub fn place_roots(
+    stand: &mut [Option<View>; 200],
+    sheet: &[u8],
+    k: usize,
+    root: usize,
+    sections: usize,
+)
     requires { (k ≤ 16) × (sections ≤ 8) }
     ensures { (rs : List ℕ) → Roots sheet.now sections rs
-        → PutAll stand.old ((root, 512 * k) ∷ section_scopes 0 rs) stand.new }
+        → PutAll stand.old ((root, slots k 0) ∷ section_scopes 0 rs) stand.new }
 {
-    place(stand, root, 512 * (k as u32));
-    let mut c: usize = 0;
-    while c < sections {
+    place(stand, root, slots(k, 0));
+    for c in 0..sections {
         place(
             stand,
             sheet::section_root(sheet, c),
-            1024 + (SECTIONS + 3 * c) as u32,
+            slots(2, SECTIONS + 3 * c),
         );
-        c += 1;
     }
 }
 
 // The children of node i, which is n and stands in this scope, where it is a case on a list.
-fn place_list_case(stand: &mut [u32; 200], n: Node, i: usize, scope: u32)
-    requires { (scope < 256000) × (i < 200) × (subject n < 200) }
-    ensures { (row n).kind ≡ 0x17 → PutAll stand.old (child_scopes scope i n) stand.new }
+fn place_list_case(stand: &mut [Option<View>; 200], n: Node, i: usize, view: View)
+    requires { (view.width < 1000) × (i < 200) }
+    ensures { (row n).kind ≡ 0x17 → PutAll stand.old (child_scopes view i n) stand.new }
 {
     let Node::ListCase {
         subject,
@@ -82,86 +112,72 @@ fn place_list_case(stand: &mut [u32; 200], n: Node, i: usize, scope: u32)
     else {
         return;
     };
-    place_two(stand, subject, empty, scope);
-    place(stand, front, widened(scope, subject));
+    place_two(stand, subject, empty, view);
+    place(stand, front, widened(view, subject));
     place_two(stand, first, rest, view_of(i));
 }
 
 // The same of any node.
-pub fn place_children(stand: &mut [u32; 200], n: Node, i: usize, scope: u32)
-    requires { (scope < 256000) × (i < 200) × (subject n < 200) }
-    ensures { PutAll stand.old (child_scopes scope i n) stand.new }
+pub fn place_children(stand: &mut [Option<View>; 200], n: Node, i: usize, view: View)
+    requires { (view.width < 1000) × (i < 200) }
+    ensures { PutAll stand.old (child_scopes view i n) stand.new }
 {
     match n {
-        Node::Front { first, rest } => place_two(stand, first, rest, scope),
-        Node::Pair { left, right } => place_two(stand, left, right, scope),
-        Node::ListCase { .. } => place_list_case(stand, n, i, scope),
+        Node::Front { first, rest } => place_two(stand, first, rest, view),
+        Node::Pair { left, right } => place_two(stand, left, right, view),
+        Node::ListCase { .. } => place_list_case(stand, n, i, view),
         Node::TruthCase {
             subject,
             no,
             yes,
             ..
         } => {
-            place(stand, subject, scope);
-            place_two(stand, no, yes, scope);
+            place(stand, subject, view);
+            place_two(stand, no, yes, view);
         }
         Node::Split { subject, inner } => {
-            place(stand, subject, scope);
-            place(stand, inner, widened(scope, subject));
+            place(stand, subject, view);
+            place(stand, inner, widened(view, subject));
         }
-        Node::Add { node, .. } => place(stand, node, scope),
+        Node::Add { node, .. } => place(stand, node, view),
         Node::Each {
             subject,
             default,
             ..
         } => {
-            place(stand, subject, scope);
-            place(stand, default, ALONE);
+            place(stand, subject, view);
+            place(stand, default, slots(0, 0));
         }
         _ => {}
     }
 }
 
-// How many variables a scope has.
-fn width_of(scope: u32) -> usize
-    ensures { result ≡ scope / 512 }
-{
-    (scope / 512) as usize
-}
-
-// How they are found.
-fn how_of(scope: u32) -> usize
-    ensures { result ≡ scope % 512 }
-{
-    (scope % 512) as usize
-}
-
-// The type of variable x in a scope; empty where it has no such variable. It climbs from the scope of a case to the one around it.
+// The type of variable x in the scope of node n, if it has that variable. It climbs from the scope of a case to the one around it.
 pub fn variable<'a>(
-    types: &'a [u8],
-    starts: &[u16; 242],
-    stand: &[u32; 200],
-    scope: u32,
+    lent: Lent<'a>,
+    stand: &[Option<View>; 200],
+    n: usize,
     x: usize,
-) -> &'a [u8]
-    requires { (Γ : Scope) × Scoped types.now starts.now stand.now scope Γ }
-    ensures { (Γ : Scope) → Scoped types.now starts.now stand.now scope Γ → result.now ≡ bytes_or (get_elem? Γ x) }
+) -> Option<&'a [u8]>
+    requires { (n < 200) × ((Γ : Scope) × StandsIn lent.types.now lent.starts.now stand.now n Γ) }
+    ensures { (Γ : Scope) → StandsIn lent.entry.types.now lent.entry.starts.now stand.now n Γ
+        → MatchOption result (get_elem? Γ x ≡ none) (λ t. IsType t.now (get_elem? Γ x)) }
 {
-    if width_of(scope) <= x {
-        return &types[..0];
+    let mut view = stand[n]?;
+    if view.width <= x {
+        return None;
     }
-    let mut inner = scope;
+    // The next scope stands where this one says, so that no iterator goes over them.
     loop {
-        let how = how_of(inner);
-        if how < 256 {
-            return type_in(types, starts, how + x);
+        let subject = match view.found {
+            Found::From(slot) => return Some(lent.type_in(slot + x)),
+            Found::Inside(subject) => subject,
+        };
+        let outer = stand[subject]?;
+        if outer.width <= x {
+            let (first, second) = parts_of(lent.type_in(NODES + subject))?;
+            return Some(if outer.width < x { second } else { first });
         }
-        let subject = how - 256;
-        let outer = stand[subject];
-        let width = width_of(outer);
-        if width <= x {
-            return part_of(type_in(types, starts, NODES + subject), width < x);
-        }
-        inner = outer;
+        view = outer;
     }
 }

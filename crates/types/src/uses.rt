@@ -1,12 +1,11 @@
 //! Nodes that are used twice, as a child or a root.
-ghost use Rattle.std.specs.Prelude.{List, [], ◌∷◌, ◌++◌, ◌≡◌, ℕ, ◌≤◌, eqb, length, get_or};
+ghost use Rattle.std.specs.Prelude.{List, [], ◌∷◌, ◌++◌, ◌≡◌, ◌==◌, ℕ, ◌≤◌, length, take, position};
 ghost use Rattle.node.specs.Kinds.{children};
 ghost use Rattle.sheet.specs.Laws.{Reads};
 ghost use Rattle.sheet.specs.Sheet.{Sheet};
 ghost use Rattle.typing.specs.Check.{lowest, twice};
 ghost use Rattle.types.specs.Uses.{Counted, Roots, lowest_in};
 
-use crate::Lowest;
 use node::Node;
 use sheet::Table;
 
@@ -73,40 +72,28 @@ fn count_roots(uses: &mut [u8; 200], sheet: &[u8], root: usize, sections: usize)
     ensures { (rs : List ℕ) → Roots sheet.now sections rs → Counted uses.old [] → Counted uses.new (root ∷ rs) }
 {
     count(uses, root);
-    let mut c: usize = 0;
-    while c < sections {
+    for c in 0..sections {
         count(uses, sheet::section_root(sheet, c));
-        c += 1;
     }
 }
 
 // The lowest node that is used twice: first all uses are counted, of the roots and of every node's children.
-pub fn first_used_twice(sheet: &[u8], t: Table) -> Lowest
+pub fn first_used_twice(sheet: &[u8], t: Table) -> Option<usize>
     requires { t.nodes ≤ 200 }
     ensures { (sh : Sheet) → Reads sheet.now t sh → result ≡ lowest_in (lowest (twice sh) 0 (length sh.nodes)) }
 {
     let mut uses = [0u8; 200];
     count_roots(&mut uses, sheet, t.root, t.sections);
-    let mut i: usize = 0;
-    while i < t.nodes {
-        let at = t.starts[i] as usize;
-        count_children(&mut uses, node::node_at(sheet, at));
-        i += 1;
+    for &start in &t.starts[..t.nodes] {
+        count_children(&mut uses, node::node_at(sheet, usize::from(start)));
     }
     lowest_of(&uses, t.nodes)
 }
 
 // The lowest of these nodes with two uses.
-fn lowest_of(uses: &[u8; 200], nodes: usize) -> Lowest
+fn lowest_of(uses: &[u8; 200], nodes: usize) -> Option<usize>
     requires { nodes ≤ 200 }
-    ensures { result ≡ lowest_in (lowest (λ n. eqb (get_or uses.now n 0) 2) 0 nodes) }
+    ensures { result ≡ position (λ n. n == 2) (take nodes uses.now) }
 {
-    let mut i: usize = 0;
-    while i < nodes {
-        if uses[i] == 2 {
-            return Lowest::At(i);
-        }
-        i += 1;
-    }
-    Lowest::Nothing
+    uses[..nodes].iter().position(|&n| n == 2)
 }

@@ -53,7 +53,7 @@ use Rattle.value.specs.Reading.{
 use Rattle.value.specs.Laws.{bytes_of, Sound, s_whole, Names, is0, is1, is2, is3, is4, is5, is6, is_other}
 use Rattle.value.proofs.Laws.{names, sound, composed, body_read, nothing_owed, read_sound}
 use Rattle.value.specs.declared.Fault.TheVariants.{Malformed, TooLong}
-use Rattle.value.specs.Reader.{Read, outcome, Reads, r_malformed, r_too_long, r_whole, from, TwoParts, BodyBegins}
+use Rattle.value.specs.Reader.{Read, outcome, Reads, r_malformed, r_too_long, r_whole, from, TwoParts, BodyBegins, NumberBegins, small, large}
 
 pub from-drop : (a : ℕ) (s : List ℕ) → from a s ≡ drop a s
 from-drop a s = take_all (length s - a) (drop a s) (rw length-drop (le_refl (length s - a)))
@@ -267,6 +267,39 @@ module _ {least follow : ℕ} {s : List ℕ} {room : ℕ} (p : BodyBegins least 
         ∙ ap (on_whole (p.make os)) (body_read least follow 0 (all_bytes (drop 1 s) (suc follow) bytes_behind) n le (drop (suc follow) (drop 1 s))
         (room - suc (suc follow)) (omega (arith, n)) os)
         ∙ composed (p.make os) (a_body t) (λ x. p.make os (a_body t x)) (λ x. refl) _ ∙ rw d)
+
+-- a number of either width
+module _ {w : ℕ} {s : List ℕ} {room : ℕ} (p : NumberBegins w s room) where
+  pub number_ended : length s < w → length s ≤ room → Reads value s room (Err Malformed)
+  number_ended l r = go p l
+    where
+      go : {w : ℕ} → NumberBegins w s room → length s < w → Reads value s room (Err Malformed)
+      go (small b) l = body_ended b (omega arith) r
+      go (large b) l = body_ended b (omega arith) r
+
+  pub number_full : room < w → room < length s → Reads value s room (Err TooLong)
+  number_full l r = go p l
+    where
+      go : {w : ℕ} → NumberBegins w s room → room < w → Reads value s room (Err TooLong)
+      go (small b) l = body_full b (omega arith) r
+      go (large b) l = body_full b (omega arith) r
+
+  module _ (l : w ≤ length s) (r : w ≤ room) where
+    pub number_low : w ≡ 5 → 256 * get_or s 1 0 + get_or s 2 0 ≡ 0 → Reads value s room (Err Malformed)
+    number_low e z = go p l r e
+      where
+        go : {w : ℕ} → NumberBegins w s room → w ≤ length s → w ≤ room → w ≡ 5 → Reads value s room (Err Malformed)
+        go (small b) l r e = absurd (omega arith)
+        go (large b) l r e = body_small b (omega arith) (omega arith) (omega (arith, four_joined s (omega arith), b.bytes 3, b.bytes 4))
+
+    pub number_whole : (w ≡ 5 → 256 * get_or s 1 0 + get_or s 2 0 ≡ 0 → ⊥) → Reads value s room (Ok w)
+    number_whole h = go p l r h
+      where
+        go : {w : ℕ} → NumberBegins w s room → w ≤ length s → w ≤ room → (w ≡ 5 → 256 * get_or s 1 0 + get_or s 2 0 ≡ 0 → ⊥) → Reads value s room (Ok w)
+        go (small b) l r h = body_whole b (omega arith) (omega arith) (omega arith)
+        go (large b) l r h =
+            let z : 256 * get_or s 1 0 + get_or s 2 0 ≡ 0 → ⊥ = h refl in
+            body_whole b (omega arith) (omega arith) (omega (arith, four_joined s (omega arith)))
 
 -- what is read of one value says what reading finds
 pub answers : {bs : List ℕ} {r : Read} → Reads value bs 256 r → r ≡ outcome (read_value bs)

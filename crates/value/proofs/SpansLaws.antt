@@ -1,10 +1,10 @@
 -- Laws of a plan's spans and a view's answer: what a success and a refusal say, and that each span is a value's bytes.
 use Rattle.std.specs.Prelude.{◌≡◌, refl, List, [], ◌∷◌, ◌++◌, map, ℕ, zero, suc, ◌+◌, ◌-◌, ◌≤◌, ◌<◌, length, get_or, take, drop, replicate}
-use Rattle.std.proofs.Common.{sym, ap, ap₂, ◌∙◌, append_assoc, arith, le-leb, length-append, take_at, drop_at}
+use Rattle.std.proofs.Common.{sym, ap₂, ◌∙◌, append_assoc, arith, le-leb, length-append, take_at, drop_at}
 use Rattle.std.proofs.Math.Decide.{dec_le}
 use Rattle.std.proofs.lemmas.Bool.{lt-leb}
 use Rattle.std.proofs.Math.ListN.{length-map, get_or-append}
-use Rattle.value.specs.Result.{Result, ok, refusal}
+use Rattle.value.specs.Result.{ok, refusal}
 use Rattle.value.proofs.Numbered.{Answered, numbered_ok, numbered_err}
 use Rattle.value.specs.Value.{Value, vfalse, encode, size, flat}
 use Rattle.value.proofs.Encoding.{size-encode}

@@ -3,7 +3,7 @@ use Rattle.std.specs.Prelude.{◌≡◌, Result, Ok, Err, length, take, drop}
 use mathlib.Core.List.{List, [], ◌∷◌}
 use Prim.Native.Nat.{ℕ, ◌-◌, ◌≤◌, ◌<◌}
 use Rattle.std.proofs.Math.ListN.{get_or}
-use Rattle.value.specs.Value.{size}
+use Rattle.value.specs.Value.{size, least_wide}
 use Rattle.value.specs.Reading.{Owed, value, byte, Things, nothing, a_value, Found, whole, malformed, too_long, on_whole, read}
 use Rattle.value.specs.declared.Fault.{Fault}
 use Rattle.value.specs.declared.Fault.TheVariants.{Malformed, TooLong}
@@ -51,3 +51,8 @@ pub record BodyBegins (least follow : ℕ) (s : List ℕ) (room : ℕ) : Type 0 
   pub bytes : (i : ℕ) → get_or s i 0 < 256
   pub there : 0 < length s
   pub some : 0 < room
+
+-- a number of so many bytes begins here, the kind byte counted
+pub data NumberBegins : ℕ → List ℕ → ℕ → Type 0 where
+  small : {s : List ℕ} {room : ℕ} → BodyBegins 0 1 s room → NumberBegins 3 s room
+  large : {s : List ℕ} {room : ℕ} → BodyBegins least_wide 3 s room → NumberBegins 5 s room

@@ -1,6 +1,6 @@
 -- Where the values of a plan stand in its bytes: starts and lengths, or the refusal's number.
 use Rattle.std.specs.Prelude.{Bool, true, false, Option, Some, None, List, [], ◌∷◌, ◌++◌, map, ℕ, ◌+◌, ◌-◌, leb, length, replicate}
-use Rattle.value.specs.Result.{Result, ok, refusal, map_result}
+use Rattle.value.specs.Result.{Result, refusal, map_result}
 use Rattle.value.specs.Value.{Value, size}
 use Rattle.value.specs.Reading.{read_value, read_plan, read_view}
 use Rattle.value.specs.Reader.{Read, outcome}

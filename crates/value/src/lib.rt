@@ -2,9 +2,8 @@
 #![tactic(auto)]
 
 ghost use Rattle.std.specs.Prelude.{◌≡◌, ◌+◌, ◌*◌, ◌/◌, ◌%◌, ◌≤◌, get_or};
-ghost use Rattle.value.specs.Reader.{Reads, PartBegins, BodyBegins, outcome};
+ghost use Rattle.value.specs.Reader.{Reads, PartBegins, NumberBegins, outcome};
 ghost use Rattle.value.specs.Reading.{read_value, value, rest};
-ghost use Rattle.value.specs.Value.{least_wide};
 ghost use Rattle.value.specs.Numbered.{numbered};
 ghost use Rattle.value.specs.Spans.{next_of, spans_of, view_of};
 
@@ -29,7 +28,8 @@ pub fn read_value(s: &[u8]) -> Result<usize, Fault>
     value(s, MOST)
 }
 
-// A value of any kind, of at most `room` bytes. A pair owes two values in place of one.
+// A value of any kind, of at most `room` bytes. A pair owes two values in place of one. Kinds are told by their bytes, as document 01's table has
+// them: each is met in one place, where an enum would only name it again.
 #[cycle(list_part_value)]
 fn value(s: &[u8], room: usize) -> Result<usize, Fault>
     requires { room ≤ 256 }
@@ -37,6 +37,7 @@ fn value(s: &[u8], room: usize) -> Result<usize, Fault>
 {
     let mut at = 0;
     let mut owed: usize = 1;
+    // no `for`: where the next value begins comes from the one read
     while owed != 0 {
         if s.len() <= at {
             return Err(Fault::Malformed);
@@ -79,14 +80,11 @@ fn numeral(s: &[u8], room: usize) -> Result<usize, Fault>
     requires { PartBegins s.now room × (4 ≤ get_or s.now 0 0) }
     ensures { Reads value s.now room result }
 {
-    let kind = s[0];
-    if kind == 4 {
-        return body(s, room);
+    match s[0] {
+        4 => number_of::<3>(s, room),
+        6 => number_of::<5>(s, room),
+        _ => Err(Fault::Malformed),
     }
-    if kind == 6 {
-        return wide(s, room);
-    }
-    Err(Fault::Malformed)
 }
 
 // A list, of at most `room` bytes, member by member.
@@ -96,6 +94,7 @@ fn list(s: &[u8], room: usize) -> Result<usize, Fault>
     ensures { Reads rest s.now room result }
 {
     let mut at = 0;
+    // no `for`: where the next member begins comes from the one read
     while at < s.len() {
         if room <= at {
             return Err(Fault::TooLong);
@@ -113,48 +112,26 @@ fn list(s: &[u8], room: usize) -> Result<usize, Fault>
     Err(Fault::Malformed)
 }
 
-// A number of kind 04: the kind byte and two bytes, each judged in turn.
-fn body(s: &[u8], room: usize) -> Result<usize, Fault>
-    requires { BodyBegins 0 1 s.now room }
+// A number that has so many bytes, its kind byte counted: 3 of kind 04, 5 of kind 06. Each is judged in turn, so that of the input's end and
+// the room's the nearer one is met, the input's where they are one. One of kind 06 that is at most 65,535 is malformed at its last byte.
+fn number_of<const WIDTH: usize>(s: &[u8], room: usize) -> Result<usize, Fault>
+    requires { NumberBegins WIDTH s.now room }
     ensures { Reads value s.now room result }
 {
-    if s.len() <= 1 {
+    if s.len() < WIDTH && s.len() <= room {
         return Err(Fault::Malformed);
     }
-    if room <= 1 {
+    if room < WIDTH {
         return Err(Fault::TooLong);
     }
-    if s.len() == 2 {
+    if WIDTH == 5 && number(s[1], s[2]) == 0 {
         return Err(Fault::Malformed);
     }
-    if room == 2 {
-        return Err(Fault::TooLong);
-    }
-    Ok(3)
-}
-
-// A number of kind 06: the kind byte and four bytes. Each is judged in turn, so that of the input's end and the room's the nearer
-// one is met, the input's where they are one. One that is at most 65,535 is malformed at its last byte.
-fn wide(s: &[u8], room: usize) -> Result<usize, Fault>
-    requires { BodyBegins least_wide 3 s.now room }
-    ensures { Reads value s.now room result }
-{
-    if s.len() < 5 {
-        if s.len() <= room {
-            return Err(Fault::Malformed);
-        }
-        return Err(Fault::TooLong);
-    }
-    if room < 5 {
-        return Err(Fault::TooLong);
-    }
-    if number(s[1], s[2]) == 0 {
-        return Err(Fault::Malformed);
-    }
-    Ok(5)
+    Ok(WIDTH)
 }
 
 // The next of several values; `None` where the bytes end.
+#[tactic(auto, using(crate::proofs::Progress::next_none, crate::proofs::Progress::next_some))]
 fn next_value(s: &[u8]) -> Option<Result<usize, Fault>>
     ensures { result ≡ next_of s.now }
 {
@@ -164,7 +141,8 @@ fn next_value(s: &[u8]) -> Option<Result<usize, Fault>>
     Some(read_value(s))
 }
 
-/// Where the values of a plan stand: the start and the length of each, in bytes, with zeros behind the last.
+/// Where the values of a plan stand: the start and the length of each, in bytes, with zeros behind the last. They are two arrays, since the
+/// starts are handed on whole (crate `starts`), as C lends them; and of 16, since the core has no heap.
 #[derive(Clone, Copy, Debug, PartialEq, Eq)]
 pub struct Spans {
     pub starts: [u16; 16],
@@ -216,23 +194,23 @@ pub fn read_view(s: &[u8]) -> Result<(), Refusal>
     }
 }
 
-// A number of kind 04 from its two bytes, high byte first.
+/// A number of kind 04 from its two bytes, high byte first.
 pub fn number(high: u8, low: u8) -> u16
     ensures { result ≡ 256 * high + low }
 {
-    256 * (high as u16) + (low as u16)
+    u16::from_be_bytes([high, low])
 }
 
-// The high byte of a number.
+/// The high byte of a number.
 pub fn high(n: u16) -> u8
     ensures { result ≡ n / 256 }
 {
-    (n / 256) as u8
+    n.to_be_bytes()[0]
 }
 
-// The low byte of a number.
+/// The low byte of a number.
 pub fn low(n: u16) -> u8
     ensures { result ≡ n % 256 }
 {
-    (n % 256) as u8
+    n.to_be_bytes()[1]
 }

@@ -22,8 +22,7 @@ use Rattle.report.specs.Text.{words, refusal_line, ok_line}
 use Rattle.report.proofs.TextLaws.{refusal_length}
 use Rattle.report.specs.Writing.{Wrote, wrote_text}
 use Rattle.inputs.specs.declared.fields.Fields.{Fields}
-use Rattle.inputs.specs.declared.fields.Taken.{Taken}
-use Rattle.inputs.specs.declared.fields.Taken.TheVariants.{Whole, Cut}
+use Rattle.std.specs.Prelude.{Option, Some, None}
 use Rattle.inputs.specs.Format.{two, part, fields_of, sheet_of, plan_of, view_of}
 use Rattle.letters.specs.Small.{Small, no, small_number, small_unless, small_then, small_sheet, small_view, small_plan}
 use Rattle.walking.specs.Endings.{Ending, says, yes_line, judges, checks_by, checks, output_after, scratch_after}
@@ -68,10 +67,10 @@ yes_length (ok true) t = omega arith
 yes_length (ok false) t = omega arith
 yes_length (refusal c) t = refusal_length c (small_number t c refl)
 
-pub checks_fit : (bs : List ℕ) (t : Taken) → length (checks bs t).line ≤ 7
+pub checks_fit : (bs : List ℕ) (t : Option Fields) → length (checks bs t).line ≤ 7
 unfolding checks checks_by
-checks_fit bs Cut = refusal_length 60 (omega arith)
-checks_fit bs (Whole f) = go (leb (2 + two (view_of bs f) 0) (length (view_of bs f)))
+checks_fit bs None = refusal_length 60 (omega arith)
+checks_fit bs (Some f) = go (leb (2 + two (view_of bs f) 0) (length (view_of bs f)))
   where
     go : (p : Bool) → let rest = view_of bs f in let n = two rest 0 in
         length (cond p (judges (accepts_of (sheet_of bs f) (plan_of bs f) (part rest 2 n) (drop (2 + n) rest) f.allowance scratch_size))
@@ -80,10 +79,10 @@ checks_fit bs (Whole f) = go (leb (2 + two (view_of bs f) 0) (length (view_of bs
     go false = refusal_length 60 (omega arith)
 
 -- it takes no output
-pub checks_output : (bs : List ℕ) (t : Taken) (o : List ℕ) → o ≡ output_after (checks bs t).call o
+pub checks_output : (bs : List ℕ) (t : Option Fields) (o : List ℕ) → o ≡ output_after (checks bs t).call o
 unfolding checks checks_by output_after
-checks_output bs Cut o = refl
-checks_output bs (Whole f) o = go (leb (2 + two (view_of bs f) 0) (length (view_of bs f))) _
+checks_output bs None o = refl
+checks_output bs (Some f) o = go (leb (2 + two (view_of bs f) 0) (length (view_of bs f))) _
   where
     go : (p : Bool) (a : Result Bool) → o ≡ output_after (cond p (judges a) (says (refusal_line 60))).call o
     go true a = refl
@@ -116,12 +115,12 @@ verdict_is (ok true) = refl
 verdict_is (ok false) = refl
 verdict_is (refusal c) = refl
 
-module _ (bs : List ℕ) {k : Taken} (e : k ≡ fields_of bs) where
-  pub check_cut : {s : List ℕ} {r : ℕ} {t t' : List ℕ} → k ≡ Cut → Wrote (refusal_line 60) 0 t t' r → Explained (checks bs (fields_of bs)) r t t' s s
+module _ (bs : List ℕ) {k : Option Fields} (e : k ≡ fields_of bs) where
+  pub check_cut : {s : List ℕ} {r : ℕ} {t t' : List ℕ} → k ≡ None → Wrote (refusal_line 60) 0 t t' r → Explained (checks bs (fields_of bs)) r t t' s s
   unfolding checks scratch_after
   check_cut q w = rw (sym e ∙ q) (w, refl)
 
-  module _ {f : Fields} (q : k ≡ Whole f) {rest : List ℕ} (er : rest ≡ view_of bs f) where
+  module _ {f : Fields} (q : k ≡ Some f) {rest : List ℕ} (er : rest ≡ view_of bs f) where
     its_fields : checks bs (fields_of bs) ≡ checks_by bs f rest
     unfolding checks
     its_fields = rw (sym e ∙ q) (ap (checks_by bs f) (sym er))

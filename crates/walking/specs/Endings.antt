@@ -15,10 +15,9 @@ use Rattle.report.specs.Writing.{Wrote}
 use Rattle.starts.specs.declared.Starts.{Starts}
 use Rattle.starts.specs.Starts.{numbers}
 use Rattle.inputs.specs.declared.fields.Fields.{Fields}
-use Rattle.inputs.specs.declared.fields.Taken.{Taken}
-use Rattle.inputs.specs.declared.fields.Taken.TheVariants.{Whole, Cut}
+use Rattle.std.specs.Prelude.{Option, Some, None}
 use Rattle.inputs.specs.declared.Job.{Job}
-use Rattle.inputs.specs.declared.Job.TheVariants.{Get, Put, Other}
+use Rattle.inputs.specs.declared.Job.TheVariants.{Get, Put}
 use Rattle.inputs.specs.Format.{two, part, sheet_of, plan_of, view_of, job_of, job_number}
 use Rattle.words.specs.Answers.{bits_word}
 use Rattle.walking.specs.Explanations.{why_line}
@@ -49,9 +48,9 @@ unfoldable pub put_line : (ws : List (List ℕ)) → Answer → List ℕ
 put_line ws (Answer.refusal c) = refusal_line c
 put_line ws (success new n) = ok_line (decimal_of n ∷ hex_of new ∷ ws)
 
-unfoldable pub puts : (bits : Bool) → List ℕ → Taken → Ending
-puts bits bs Cut = says (refusal_line 60)
-puts bits bs (Whole f) =
+unfoldable pub puts : (bits : Bool) → List ℕ → Option Fields → Ending
+puts bits bs None = says (refusal_line 60)
+puts bits bs (Some f) =
     let sheet = sheet_of bs f in
     let plan = plan_of bs f in
     let view = view_of bs f in
@@ -63,10 +62,10 @@ puts bits bs (Whole f) =
 abbrev pub explains : Explanation → Ending
 explains e = record { line = why_line e; call = asked e }
 
-unfoldable pub why_by : List ℕ → Job → Ending
-why_by bs (Get f) = explains (why_get (sheet_of bs f) (plan_of bs f) f.allowance scratch_size)
-why_by bs (Put f) = explains (why_put (sheet_of bs f) (plan_of bs f) (view_of bs f) f.allowance scratch_size)
-why_by bs Other = says (refusal_line (job_number Other))
+unfoldable pub why_by : List ℕ → Option Job → Ending
+why_by bs (Some (Get f)) = explains (why_get (sheet_of bs f) (plan_of bs f) f.allowance scratch_size)
+why_by bs (Some (Put f)) = explains (why_put (sheet_of bs f) (plan_of bs f) (view_of bs f) f.allowance scratch_size)
+why_by bs None = says (refusal_line (job_number None))
 
 unfoldable pub whys : List ℕ → Ending
 whys bs = why_by bs (job_of bs)
@@ -87,9 +86,9 @@ checks_by bs f rest =
     cond (leb (2 + n) (length rest))
     (judges (accepts_of (sheet_of bs f) (plan_of bs f) (part rest 2 n) (drop (2 + n) rest) f.allowance scratch_size)) (says (refusal_line 60))
 
-unfoldable pub checks : List ℕ → Taken → Ending
-checks bs Cut = says (refusal_line 60)
-checks bs (Whole f) = checks_by bs f (view_of bs f)
+unfoldable pub checks : List ℕ → Option Fields → Ending
+checks bs None = says (refusal_line 60)
+checks bs (Some f) = checks_by bs f (view_of bs f)
 
 -- WHAT THE CODE LEAVES
 

@@ -2,6 +2,7 @@
 use Rattle.std.specs.Prelude.{◌≡◌, refl, List, [], ◌∷◌, ℕ, zero, suc, ◌+◌, ◌-◌, ◌≤◌, ◌<◌, length, get_or, take}
 use Rattle.std.proofs.Common.{ap, ◌∙◌, arith, ne_eqb, length-append}
 use Rattle.std.proofs.Math.Option.{Option, none, some}
+use Rattle.std.specs.Prelude.{Option as Found, Some, None}
 use Rattle.rules.specs.Numbers.{scratch_size, chain_limit}
 use Rattle.rules.specs.Explain.{Cause}
 use Rattle.rules.specs.Explain.Calls.{Explanation, success, before, walked, why_get, why_put}
@@ -15,7 +16,7 @@ use Rattle.report.proofs.TextLaws.{Below, none as below_none, each, decimal_leng
 use Rattle.report.specs.Writing.{Wrote, wrote_text}
 use Rattle.inputs.specs.declared.fields.Fields.{Fields}
 use Rattle.inputs.specs.declared.Job.{Job}
-use Rattle.inputs.specs.declared.Job.TheVariants.{Get, Put, Other}
+use Rattle.inputs.specs.declared.Job.TheVariants.{Get, Put}
 use Rattle.inputs.specs.Format.{sheet_of, plan_of, view_of, job_of}
 use Rattle.words.specs.Answers.{no_line, by_number, met_words, told_line}
 use Rattle.walking.specs.Explanations.{by_first, why_line, told}
@@ -61,10 +62,10 @@ pub whys_fit : (bs : List ℕ) → length (whys bs).line ≤ 230
 unfolding whys why_by
 whys_fit bs = go (job_of bs)
   where
-    go : (j : Job) → length (why_by bs j).line ≤ 230
-    go (Get f) = why_fits _ (why_get_proper (sheet_of bs f) (plan_of bs f) f.allowance scratch_size)
-    go (Put f) = why_fits _ (why_put_proper (sheet_of bs f) (plan_of bs f) (view_of bs f) f.allowance scratch_size)
-    go Other = omega (arith, refusal_length 60 (omega arith))
+    go : (j : Found Job) → length (why_by bs j).line ≤ 230
+    go (Some (Get f)) = why_fits _ (why_get_proper (sheet_of bs f) (plan_of bs f) f.allowance scratch_size)
+    go (Some (Put f)) = why_fits _ (why_put_proper (sheet_of bs f) (plan_of bs f) (view_of bs f) f.allowance scratch_size)
+    go None = omega (arith, refusal_length 60 (omega arith))
 
 -- WHAT SHOWS IT OF THE CODE
 
@@ -97,25 +98,25 @@ abbrev pub Explained : Ending → (r : ℕ) (t t' s s' : List ℕ) → Type 0
 Explained e r t t' s s' = Wrote e.line 0 t t' r × (s' ≡ scratch_after e.call s)
 
 -- a job, case by case
-module _ {bs b : List ℕ} (eb : bs ≡ b) {j : Job} (q : j ≡ job_of bs) where
-  by_job : {k : Job} → j ≡ k → whys b ≡ why_by bs k
+module _ {bs b : List ℕ} (eb : bs ≡ b) {j : Found Job} (q : j ≡ job_of bs) where
+  by_job : {k : Found Job} → j ≡ k → whys b ≡ why_by bs k
   unfolding whys
   by_job e = rw (← eb, ← q, e)
 
-  pub explained_none : {r : ℕ} {t t' s s' : List ℕ} → j ≡ Other → s' ≡ s → Wrote (refusal_line 60) 0 t t' r → Explained (whys b) r t t' s s'
+  pub explained_none : {r : ℕ} {t t' s s' : List ℕ} → j ≡ None → s' ≡ s → Wrote (refusal_line 60) 0 t t' r → Explained (whys b) r t t' s s'
   unfolding why_by scratch_after
   explained_none e z l = rw (by_job e) (l, z)
 
   module _ {w : WhyReply} {r : ℕ} {t t' s s' : List ℕ} (l : Wrote (told w) 0 t t' r) {f : Fields} {k : ℕ} {sheet plan : List ℕ} (es : sheet ≡ sheet_of bs f)
       (ep : plan ≡ plan_of bs f) (ek : k ≡ scratch_size) where
-    pub explained_get : j ≡ Get f → WhyAnswered (why_get sheet plan f.allowance k) w s s' → Explained (whys b) r t t' s s'
+    pub explained_get : j ≡ Some (Get f) → WhyAnswered (why_get sheet plan f.allowance k) w s s' → Explained (whys b) r t t' s s'
     unfolding why_by scratch_after
     explained_get e h =
         let a = f.allowance in
         let x : Explained (explains (why_get sheet plan a k)) r t t' s s' = (told_text h (why_get_proper sheet plan a k) l, h.scratch) in
         rw (by_job e, ← es, ← ep, ← ek) x
 
-    pub explained_put : {view : List ℕ} → j ≡ Put f → view ≡ view_of bs f → WhyAnswered (why_put sheet plan view f.allowance k) w s s'
+    pub explained_put : {view : List ℕ} → j ≡ Some (Put f) → view ≡ view_of bs f → WhyAnswered (why_put sheet plan view f.allowance k) w s s'
         → Explained (whys b) r t t' s s'
     unfolding why_by scratch_after
     explained_put {view} e ev h =
@@ -128,7 +129,7 @@ pub whys_output : (bs o : List ℕ) → o ≡ output_after (whys bs).call o
 unfolding whys why_by output_after
 whys_output bs o = go (job_of bs)
   where
-    go : (j : Job) → o ≡ output_after (why_by bs j).call o
-    go (Get f) = refl
-    go (Put f) = refl
-    go Other = refl
+    go : (j : Found Job) → o ≡ output_after (why_by bs j).call o
+    go (Some (Get f)) = refl
+    go (Some (Put f)) = refl
+    go None = refl

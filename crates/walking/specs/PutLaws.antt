@@ -16,8 +16,7 @@ use Rattle.starts.specs.declared.Starts.{Starts}
 use Rattle.inputs.specs.Numbers.{input_limit}
 use Rattle.words.specs.Numbers.{line_limit}
 use Rattle.inputs.specs.declared.fields.Fields.{Fields}
-use Rattle.inputs.specs.declared.fields.Taken.{Taken}
-use Rattle.inputs.specs.declared.fields.Taken.TheVariants.{Whole, Cut}
+use Rattle.std.specs.Prelude.{Option, Some, None}
 use Rattle.inputs.specs.Format.{fields_of, sheet_of, plan_of, view_of}
 use Rattle.words.specs.Answers.{bits_word}
 use Rattle.words.proofs.Starts.{kept, kept_all}
@@ -41,10 +40,10 @@ fits_put bits sheet written (success new n) s =
     let m = besides-length bits sheet new n written (omega arith) in
     simp (ok_length, length-append, hex_length) (omega (arith, m, decimal_length n 6 (omega arith)))
 
-pub fits_puts : (bits : Bool) (bs : List ℕ) (t : Taken) → length (puts bits bs t).line ≤ line_limit
+pub fits_puts : (bits : Bool) (bs : List ℕ) (t : Option Fields) → length (puts bits bs t).line ≤ line_limit
 unfolding puts
-fits_puts bits bs Cut = fits_refusal 60 (omega arith)
-fits_puts bits bs (Whole f) =
+fits_puts bits bs None = fits_refusal 60 (omega arith)
+fits_puts bits bs (Some f) =
     let sheet = sheet_of bs f in
     fits_put bits sheet _ _ (small_put sheet (plan_of bs f) (view_of bs f) f.allowance put_output scratch_size {o = []} {s = []} answered)
   where
@@ -53,7 +52,7 @@ fits_puts bits bs (Whole f) =
 
 -- WHAT SHOWS IT
 
-pub put_cut : (bits : Bool) (bs : List ℕ) {t : Taken} → t ≡ fields_of bs → t ≡ Cut → puts bits bs (fields_of bs) ≡ says (refusal_line 60)
+pub put_cut : (bits : Bool) (bs : List ℕ) {t : Option Fields} → t ≡ fields_of bs → t ≡ None → puts bits bs (fields_of bs) ≡ says (refusal_line 60)
 unfolding puts
 put_cut bits bs e q = rw (sym e ∙ q)
 
@@ -62,7 +61,7 @@ abbrev put_ending : (bits : Bool) (sheet plan view : List ℕ) (allowance : ℕ)
 put_ending bits sheet plan view allowance a =
     record { line = put_line (besides bits (new_starts sheet a) (new_written sheet plan view allowance a)) a; call = made a }
 
-pub put_whole : (bits : Bool) (bs : List ℕ) {t : Taken} → t ≡ fields_of bs → {f : Fields} → t ≡ Whole f → {sheet plan view : List ℕ}
+pub put_whole : (bits : Bool) (bs : List ℕ) {t : Option Fields} → t ≡ fields_of bs → {f : Fields} → t ≡ Some f → {sheet plan view : List ℕ}
     → sheet ≡ sheet_of bs f → plan ≡ plan_of bs f → view ≡ view_of bs f → {x y : ℕ} → x ≡ put_output → y ≡ scratch_size
     → puts bits bs (fields_of bs) ≡ put_ending bits sheet plan view f.allowance (put_answer sheet plan view f.allowance x y)
 unfolding puts

@@ -6,7 +6,6 @@ ghost use Rattle.walking.specs.Endings.{scratch_after, checks};
 ghost use Rattle.walking.specs.CheckLaws.{verdict_line};
 
 use accepts::Verdict;
-use inputs::Taken;
 
 // The line of a verdict.
 fn verdict_line(verdict: Verdict, text: &mut [u8]) -> usize
@@ -15,7 +14,7 @@ fn verdict_line(verdict: Verdict, text: &mut [u8]) -> usize
     match verdict {
         Verdict::Yes => report::bytes(text, 0, b"ok yes\n"),
         Verdict::No => report::bytes(text, 0, b"ok no\n"),
-        Verdict::Refused(c) => report::refusal(text, 0, c as usize),
+        Verdict::Refused(c) => report::refusal(text, 0, usize::from(c)),
     }
 }
 
@@ -24,7 +23,7 @@ pub fn check_line(input: &[u8], scratch: &mut [u8; rules::SCRATCH], text: &mut [
     ensures wrote { Wrote (checks input.now (fields_of input.now)).line 0 text.old text.new result }
     ensures scratch_after { scratch.new ≡ scratch_after (checks input.now (fields_of input.now)).call scratch.old }
 {
-    let Taken::Whole(f) = inputs::take_fields(input) else {
+    let Some(f) = inputs::take_fields(input) else {
         return report::refusal(text, 0, 60);
     };
     let rest = inputs::view_of(input, f);

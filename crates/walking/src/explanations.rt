@@ -12,7 +12,7 @@ fn told_line(why: Explanation, text: &mut [u8]) -> usize
     ensures { Wrote (told why) 0 text.old text.new result }
 {
     let chain = why.chain;
-    let nodes = inputs::part_at(&chain, 0, why.depth as usize);
+    let nodes = inputs::part_at(&chain, 0, usize::from(why.depth));
     words::told_line(why.refusal, nodes, why.first, text)
 }
 
@@ -22,7 +22,10 @@ pub fn why_line(input: &[u8], scratch: &mut [u8; rules::SCRATCH], text: &mut [u8
     ensures scratch_after { scratch.new ≡ scratch_after (whys (drop 1 input.now)).call scratch.old }
 {
     let job = inputs::rest_from(input, 1);
-    match inputs::parse(job) {
+    let Some(call) = inputs::parse(job) else {
+        return report::refusal(text, 0, 60);
+    };
+    match call {
         Job::Get(f) => {
             let why = explaining::why_get(
                 inputs::sheet_of(job, f),
@@ -42,6 +45,5 @@ pub fn why_line(input: &[u8], scratch: &mut [u8; rules::SCRATCH], text: &mut [u8
             );
             told_line(why, text)
         }
-        Job::Other => report::refusal(text, 0, 60),
     }
 }

@@ -7,7 +7,6 @@ ghost use Rattle.report.specs.Writing.{Wrote};
 ghost use Rattle.walking.specs.Endings.{besides, puts, reply_line, Ended};
 
 use calls::Reply;
-use inputs::Taken;
 use starts::Starts;
 
 // What stands behind a new plan: which variables took a view, or where its values start.
@@ -34,7 +33,7 @@ fn reply_line(
     ensures { Wrote (reply_line reply (besides bits starts written) out.now) 0 text.old text.new result }
 {
     match reply {
-        Reply::Refused(c) => report::refusal(text, 0, c as usize),
+        Reply::Refused(c) => report::refusal(text, 0, usize::from(c)),
         Reply::Done { len, steps } => {
             let mut end = report::bytes(text, 0, b"ok");
             end = report::decimal_word(text, end, steps);
@@ -56,7 +55,7 @@ pub fn put_line(
     ensures { Ended (puts bits input.now (fields_of input.now)) result text.old text.new out.old
         out.new scratch.old scratch.new }
 {
-    let Taken::Whole(f) = inputs::take_fields(input) else {
+    let Some(f) = inputs::take_fields(input) else {
         return report::refusal(text, 0, 60);
     };
     let put = calls::put(

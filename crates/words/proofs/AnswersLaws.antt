@@ -1,20 +1,12 @@
 -- What shows the words of answers of the code.
-use Rattle.std.specs.Prelude.{◌≡◌, refl, List, [], ◌∷◌, ◌++◌, map, ℕ, zero, suc, ◌+◌, ◌-◌, ◌<◌, length, get_or, take}
+use Rattle.std.specs.Prelude.{◌≡◌, refl, List, [], ◌∷◌, ◌++◌, map, ℕ, zero, suc, ◌-◌, length, get_or}
 use Rattle.std.proofs.Math.Path.{sym}
-use Rattle.std.proofs.Common.{ap, add-one, arith, take-suc}
+use Rattle.std.proofs.Common.{arith}
 use borrow.Author.Tests.{eq-eqb, ne_eqb}
 use Rattle.report.specs.Text.{words, decimal_of, refusal_line, ok_line}
 use Rattle.report.proofs.TextLaws.{wrote_words}
-use Rattle.report.specs.Writing.{Wrote, wrote_then, wrote_text}
+use Rattle.report.specs.Writing.{Wrote, wrote_then}
 use Rattle.words.specs.Answers.{no_line, node_line, by_number, met_words, told_line}
-use Rattle.words.proofs.Starts.{map-append}
-
--- nodes written one after another: the first i of them, and one more
-pub wrote_node : (l : List ℕ) (i : ℕ) → i < length l → {p m r : ℕ} {b b₁ b₂ : List ℕ} → Wrote (words (map decimal_of (take i l))) p b b₁ m
-    → Wrote (words (decimal_of (get_or l i 0) ∷ [])) m b₁ b₂ r → Wrote (words (map decimal_of (take (i + 1) l))) p b b₂ r
-wrote_node l i h v w =
-    wrote_text (wrote_words (map decimal_of (take i l)) (decimal_of (get_or l i 0) ∷ []) v w)
-    (sym (ap words (rw (add-one i, take-suc l i 0 h) (map-append decimal_of (take i l) (get_or l i 0 ∷ [])))))
 
 -- who wrote first
 pub by_none : {f : ℕ} → f ≡ 0 → [] ≡ words (by_number f)

@@ -1,7 +1,7 @@
 //! The words of answers: starts, bits, and the line of a refusal that is explained.
 #![tactic(auto)]
 
-ghost use Rattle.std.specs.Prelude.{[], ◌∷◌, map, ◌≤◌, min, length};
+ghost use Rattle.std.specs.Prelude.{◌≡◌, ℕ, [], ◌∷◌, map, ◌≤◌, min, length};
 ghost use Rattle.starts.specs.Starts.{firsts};
 ghost use Rattle.report.specs.Text.{decimal_of, words};
 ghost use Rattle.report.specs.Writing.{Wrote};
@@ -10,46 +10,53 @@ ghost use Rattle.words.specs.Answers.{bits_word, no_line, node_line, by_number, 
 use inputs::kept;
 use starts::Starts;
 
+// A number that is written in decimal, whatever its width.
+trait Decimal {
+    ghost number: { Self → ℕ };
+
+    fn number(&self) -> usize
+        ensures { result ≡ number self.now };
+}
+
+impl Decimal for u8 {
+    ghost number = { λ n. n };
+
+    fn number(&self) -> usize {
+        usize::from(*self)
+    }
+}
+
+impl Decimal for u16 {
+    ghost number = { λ n. n };
+
+    fn number(&self) -> usize {
+        usize::from(*self)
+    }
+}
+
+// Numbers in decimal, each behind a space.
+fn number_words<T: Decimal>(text: &mut [u8], at: usize, numbers: &[T]) -> usize
+    ensures { Wrote (words (map (λ n. decimal_of (T.number n)) numbers.now)) at text.old text.new result }
+{
+    let mut end = report::place(text, at);
+    for n in numbers {
+        end = report::decimal_word(text, end, n.number());
+    }
+    end
+}
+
 /// Starts in decimal, each behind a space: as many as the count says, at most 16.
 pub fn start_words(text: &mut [u8], at: usize, starts: Starts) -> usize
     ensures { Wrote (words (map decimal_of (firsts (min starts.count 16) starts.at))) at text.old text.new result }
 {
-    let count = kept(starts.count);
-    let mut end = report::place(text, at);
-    let mut i = 0;
-    while i < count {
-        end = report::decimal_word(text, end, starts.at[i] as usize);
-        i += 1;
-    }
-    end
+    number_words(text, at, &starts.at[..kept(starts.count)])
 }
 
 /// 16 bits as four hexadecimal digits, behind a space.
 pub fn bits_word(text: &mut [u8], at: usize, bits: u16) -> usize
     ensures { Wrote (words (bits_word bits ∷ [])) at text.old text.new result }
 {
-    let bytes = [(bits / 256) as u8, (bits % 256) as u8];
-    report::hex_word(text, at, &bytes)
-}
-
-// A node in decimal, behind a space.
-fn node_word(text: &mut [u8], at: usize, node: u8) -> usize
-    ensures { Wrote (words (decimal_of node ∷ [])) at text.old text.new result }
-{
-    report::decimal_word(text, at, node as usize)
-}
-
-// Nodes in decimal, each behind a space.
-fn node_words(text: &mut [u8], at: usize, nodes: &[u8]) -> usize
-    ensures { Wrote (words (map decimal_of nodes.now)) at text.old text.new result }
-{
-    let mut end = report::place(text, at);
-    let mut i = 0;
-    while i < nodes.len() {
-        end = node_word(text, end, nodes[i]);
-        i += 1;
-    }
-    end
+    report::hex_word(text, at, &bits.to_be_bytes())
 }
 
 // `by` and the node that wrote first, given as one more than its number; nothing for 0.
@@ -60,7 +67,7 @@ fn by_words(text: &mut [u8], at: usize, first: u16) -> usize
         return report::place(text, at);
     }
     let end = report::bytes(text, at, b" by");
-    report::decimal_word(text, end, (first - 1) as usize)
+    report::decimal_word(text, end, usize::from(first - 1))
 }
 
 // The line of a refusal that was met at the last of these nodes.
@@ -70,10 +77,10 @@ fn met_line(refusal: u8, nodes: &[u8], first: u16, text: &mut [u8]) -> usize
 {
     let depth = nodes.len();
     let mut end = report::bytes(text, 0, b"no");
-    end = report::decimal_word(text, end, refusal as usize);
-    end = node_word(text, end, nodes[depth - 1]);
+    end = report::decimal_word(text, end, usize::from(refusal));
+    end = report::decimal_word(text, end, usize::from(nodes[depth - 1]));
     end = report::decimal_word(text, end, depth);
-    end = node_words(text, end, nodes);
+    end = number_words(text, end, nodes);
     end = by_words(text, end, first);
     report::byte(text, end, b'\n')
 }
@@ -86,8 +93,8 @@ pub fn told_line(refusal: u8, nodes: &[u8], first: u16, text: &mut [u8]) -> usiz
     if refusal == 0 {
         return report::bytes(text, 0, b"ok\n");
     }
-    if nodes.len() == 0 {
-        return report::refusal(text, 0, refusal as usize);
+    if nodes.is_empty() {
+        return report::refusal(text, 0, usize::from(refusal));
     }
     met_line(refusal, nodes, first, text)
 }
@@ -97,7 +104,7 @@ pub fn node_line(text: &mut [u8], refusal: u8, node: usize) -> usize
     ensures { Wrote (node_line refusal node) 0 text.old text.new result }
 {
     let mut end = report::bytes(text, 0, b"no");
-    end = report::decimal_word(text, end, refusal as usize);
+    end = report::decimal_word(text, end, usize::from(refusal));
     end = report::decimal_word(text, end, node);
     report::byte(text, end, b'\n')
 }

@@ -1,10 +1,6 @@
--- `named` meets its contract. The invariant: the variables that the first i records name are marked. Assumes nothing.
-use Prim.Native.Nat.{◌-◌}
+-- `named` meets its contract. The invariant: the variables that the records so far name are marked. Assumes nothing.
 use Rattle.accepts.specs.Marks.{Marking}
 use Rattle.accepts.proofs.named.Given as goal
 
-abbrev pub invariant-loop-i : goal.invariant-loop-i
-invariant-loop-i l = Marking l.sheet l.table l.marks l.i
-
-abbrev pub decreases-loop-i : goal.decreases-loop-i
-decreases-loop-i l = l.table.nodes - l.i
+abbrev pub invariant-loop-at : goal.invariant-loop-at
+invariant-loop-at l = Marking l.sheet l.fn.table l.marks l.at-index

@@ -2,25 +2,26 @@
 use lib.ListN.{length}
 use Rattle.rules.specs.Laws.Answers.{DoorOpens}
 use Rattle.buffers.specs.Buffers.{cleared_whole}
-use Rattle.arena.specs.Door.{door_lent}
+use Rattle.arena.specs.Door.{refused_shut}
+use Rattle.calls.specs.CallLaws.{lent_else}
 use Rattle.explaining.proofs.Calls.{get_shut, why_long, get_explained}
 use Rattle.explaining.proofs.why_get.Goals as goal
-use Rattle.explaining.proofs.why_get.Goals.{Else-refusal-ne0}
+use Rattle.explaining.proofs.why_get.Goals.{In_default}
 
 -- what is lent behind the door
-lent : (c : Else-refusal-ne0) → DoorOpens 0 0 (length c.args.scratch.now) c.args.allowance
-lent c = door_lent c.side_door-refusal.ensures c.if-refusal-ne0.false
+lent : (c : In_default) → DoorOpens 0 0 (length c.args.scratch.now) c.args.allowance
+lent c = lent_else c.side_door.ensures c.in_default.not-Err
 
-pub returns-then-refusal-ne0 : goal.returns-then-refusal-ne0
-returns-then-refusal-ne0 c = get_shut _ _ c.side_door-refusal.ensures c.if-refusal-ne0.true c.unmet.ensures _ _
+pub returns-in-Err : goal.returns-in-Err
+returns-in-Err c = let s = refused_shut _ _ _ _ c.in-Err.ensures in get_shut _ _ s.0 s.1 c.unmet.ensures _ _
 
 pub explained-why-requires : goal.explained-why-requires
 explained-why-requires c =
     let p = c.get-got.ensures in
-    (p.explains.few, why_long (lent (goal.at.explained-why-requires c).Else-refusal-ne0) p.walk_call)
+    (p.explains.few, why_long (lent (goal.at.explained-why-requires c).In_default) p.walk_call)
 
 pub returns : goal.returns
 returns c =
-    let l = lent (goal.at.returns c).Else-refusal-ne0 in
+    let l = lent (goal.at.returns c).In_default in
     let p = c.get-got.ensures in
     get_explained l p.walk_call c.explained-why.ensures (cleared_whole _ c.clear.ensures (why_long l p.walk_call)) _ _ p.explains

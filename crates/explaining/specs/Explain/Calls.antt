@@ -18,7 +18,7 @@ use Rattle.starts.proofs.Lookup.{length-firsts}
 use Rattle.walk.specs.declared.chain.Met.{Met}
 use Rattle.walk.specs.Decoded.{bytes_at, writer, length_bytes}
 use Rattle.walk.specs.Call.Explained.{met_at, why_of}
-use Rattle.explaining.specs.declared.Explanation.{Explanation as WhyReply}
+use Rattle.explaining.specs.Explain.{WhyReply}
 use Rattle.calls.specs.Reply.{Reply, Done, Refused}
 use Rattle.buffers.specs.Buffers.{copied, copied_room}
 use Rattle.calls.specs.CallLaws.{at_front}

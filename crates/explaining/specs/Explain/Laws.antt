@@ -12,7 +12,7 @@ use Rattle.rules.specs.Explain.Chain.{Leads}
 use Rattle.rules.specs.Explain.Calls.{Explanation, success, before, walked, depth, why_get, why_put, number, answer_number, Traced}
 use Rattle.rules.proofs.Explain.Calls.{why_get-number, why_put-number, traced_chain, chain_depth, chain_deepest, why_get_traced, why_put_traced}
 use Rattle.starts.specs.Starts.{firsts}
-use Rattle.explaining.specs.declared.Explanation.{Explanation as WhyReply}
+use Rattle.explaining.specs.Explain.{WhyReply}
 use Rattle.explaining.specs.Explain.{unmet, told_as, WhyAnswered}
 use Rattle.rules.proofs.Explain.Nodes.{Named, why_get_named, why_put_named}
 

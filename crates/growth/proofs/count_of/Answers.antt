@@ -1,15 +1,10 @@
 -- `count_of` meets its contract: in each arm the node is the variant that it binds. Assumes nothing.
-use Rattle.growth.proofs.Tool.{var_counted, other_counted, front_counted, pair_counted, add_counted}
+use Rattle.growth.proofs.Tool.{var_counted, front_counted, pair_counted, add_counted}
 use Rattle.growth.proofs.Tags.{none_counted}
 use Rattle.growth.proofs.count_of.Goals as goal
 
-pub returns-then-x-variable : goal.returns-then-x-variable
-returns-then-x-variable c =
-    var_counted c.args.variable c.args.counts.now c.in-Var.is c.if-x-variable.true
-
-pub returns-else-x-variable : goal.returns-else-x-variable
-returns-else-x-variable c =
-    other_counted c.args.variable c.args.counts.now c.in-Var.is c.if-x-variable.false
+pub returns-in-Var : goal.returns-in-Var
+returns-in-Var c = var_counted c.args.variable c.args.counts.now c.in-Var.is c.from.ensures
 
 pub returns-in-Front : goal.returns-in-Front
 returns-in-Front c =

@@ -5,7 +5,7 @@ use Rattle.job.proofs.reply_line.Goals as goal
 
 pub returns-in-Refused : goal.returns-in-Refused
 returns-in-Refused c =
-    wrote_text c.refusal.ensures (line_refused c.args.out.now c.in-Refused.is)
+    wrote_text (rw c.from.ensures at c.refusal.ensures) (line_refused c.args.out.now c.in-Refused.is)
 
 pub returns-in-Done : goal.returns-in-Done
 returns-in-Done c =

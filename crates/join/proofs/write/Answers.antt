@@ -1,8 +1,7 @@
 -- `join::write` meets its contract: the header, the sections of both, the pair, the nodes of both. Assumes nothing.
 use native.Mathlib.Omega.{arith}
-use Rattle.sheet.proofs.Written.{Bytes}
 use Rattle.records.specs.AnewLaws.{bytes_known}
-use Rattle.join.specs.JoinWritten.{Sizes, sizes, wrote_joined}
+use Rattle.join.specs.JoinWritten.{sizes, wrote_joined}
 use Rattle.join.proofs.write.Goals as goal
 
 pub overflow_add-behind : goal.overflow_add-behind

@@ -16,8 +16,8 @@ decreases-object l = 2 * (length l.s.now - l.at) + 1
 abbrev pub decreases-value : goal.decreases-value
 decreases-value l = 2 * (length l.s.now - l.at)
 
-abbrev pub invariant-array-loop-code : goal.invariant-array-loop-code
-invariant-array-loop-code l = (b : List ℕ) → Wrote (3 ∷ []) l.put b l.initial.out l.initial.p → Listed l.levels l.s l.at l.put b l.i l.out l.p
+abbrev pub invariant-array-loop-member : goal.invariant-array-loop-member
+invariant-array-loop-member l = (b : List ℕ) → Wrote (3 ∷ []) l.put b l.initial.out l.initial.p → Listed l.levels l.s l.at l.put b l.i l.out l.p
 
-abbrev pub decreases-array-loop-code : goal.decreases-array-loop-code
-decreases-array-loop-code l = length l.s - l.i
+abbrev pub decreases-array-loop-member : goal.decreases-array-loop-member
+decreases-array-loop-member l = length l.s - l.i

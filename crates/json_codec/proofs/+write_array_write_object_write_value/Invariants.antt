@@ -18,9 +18,9 @@ decreases-write_object l = 2 * (length l.v.now - l.at) + 2
 abbrev pub decreases-write_value : goal.decreases-write_value
 decreases-write_value l = 2 * (length l.v.now - l.at) + 1
 
-abbrev pub invariant-write_array-loop-code : goal.invariant-write_array-loop-code
-invariant-write_array-loop-code l = (m : Values) (more : List ℕ) → HeldList l.v l.at m more → (b : List ℕ) →
+abbrev pub invariant-write_array-loop-member : goal.invariant-write_array-loop-member
+invariant-write_array-loop-member l = (m : Values) (more : List ℕ) → HeldList l.v l.at m more → (b : List ℕ) →
     Wrote (0x5B ∷ []) l.put b l.initial.text l.initial.p → Turning l.v l.at l.levels l.put b m more l.i l.text l.p
 
-abbrev pub decreases-write_array-loop-code : goal.decreases-write_array-loop-code
-decreases-write_array-loop-code l = length l.v - l.i
+abbrev pub decreases-write_array-loop-member : goal.decreases-write_array-loop-member
+decreases-write_array-loop-member l = length l.v - l.i

@@ -1,26 +1,20 @@
--- `label` meets its contract: the name is passed byte by byte. Assumes nothing.
-use Rattle.json_codec.specs.Reader.{name_none, name_short, name_other, name_open, name_passed}
+-- `label` meets its contract: the name is passed part by part. Assumes nothing.
+use Rattle.value.proofs.Numbered.{passed_on}
+use Rattle.json_codec.specs.Reader.{name_none, name_inside, name_other, name_passed}
 use Rattle.json_codec.proofs.label.Goals as goal
 
-pub returns-then-i-eq0 : goal.returns-then-i-eq0
-returns-then-i-eq0 c = name_none c.args.letter c.requires c.pass-i.ensures c.if-i-eq0.true
+pub returns-in_err-open : goal.returns-in_err-open
+returns-in_err-open c =
+    rw (passed_on c.from_residual.result c.from_residual.ensures.1) (name_none c.args.letter c.requires c.pass.ensures c.in_err-open.was)
 
-pub returns-then-s-i-lt2 : goal.returns-then-s-i-lt2
-returns-then-s-i-lt2 c = name_short c.args.letter c.requires c.pass-i.ensures c.if-i-eq0.false c.if-s-i-lt2.true
+pub spell-requires : goal.spell-requires
+spell-requires c = name_inside c.args.letter c.requires c.pass.ensures c.in_ok-open.was
 
-pub returns-then-s-i : goal.returns-then-s-i
-returns-then-s-i c =
-    name_other c.args.letter c.requires c.pass-i.ensures c.if-i-eq0.false
-    c.if-s-i-lt2.false c.if-s-i.true
-
-pub returns-then-s-i-ne34 : goal.returns-then-s-i-ne34
-returns-then-s-i-ne34 c =
-    name_open c.args.letter c.requires c.pass-i.ensures c.if-i-eq0.false
-    c.if-s-i-lt2.false
-    c.if-s-i.false c.if-s-i-ne34.true
+pub returns-in_err-close : goal.returns-in_err-close
+returns-in_err-close c =
+    rw (passed_on c.from_residual-in_err-close.result c.from_residual-in_err-close.ensures.1)
+    (name_other c.args.letter c.requires c.pass.ensures c.in_ok-open.was c.spell.ensures c.in_err-close.was)
 
 pub returns : goal.returns
 returns c =
-    name_passed c.args.letter c.requires c.pass-i.ensures c.if-i-eq0.false
-    c.if-s-i-lt2.false
-    c.if-s-i.false c.if-s-i-ne34.false c.pass.ensures
+    name_passed c.args.letter c.requires c.pass.ensures c.in_ok-open.was c.spell.ensures c.in_ok-close.was c.pass-2.ensures

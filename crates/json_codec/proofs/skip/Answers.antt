@@ -1,8 +1,10 @@
-use mathlib.Core.Path.{sym, ◌∙◌}
-use Rattle.json_codec.specs.Reader.{one_more}
+-- `skip` meets its contract: the first byte that is no white space, or the end. Assumes nothing.
+use Rattle.std.proofs.Common.{sym, ◌∙◌}
+use Rattle.json_codec.specs.Reader.{skips_to, skips_all}
 use Rattle.json_codec.proofs.skip.Goals as goal
 
-pub loop-i-preserved : goal.loop-i-preserved
-loop-i-preserved c =
-    one_more c.loop-i.invariant c.loop-i-test.true
-    (sym c.is_white.ensures ∙ c.if-not-is_white.false)
+pub returns-in-Some : goal.returns-in-Some
+returns-in-Some c = skips_to c.requires (sym c.first_black.ensures ∙ c.in-Some.is)
+
+pub returns-in-None : goal.returns-in-None
+returns-in-None c = skips_all c.requires (sym c.first_black.ensures ∙ c.in-None.is)

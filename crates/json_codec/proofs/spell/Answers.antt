@@ -1,15 +1,11 @@
-use native.Mathlib.Omega.{arith}
-use Rattle.json_codec.specs.Reader.{all_spelled, spelled_more, not_spelled, word_short, not_passed}
+-- `spell` meets its contract: the text begins with the bytes there, or is refused. Assumes nothing.
+use Rattle.json_codec.specs.Reader.{spelled, not_spelled}
 use Rattle.json_codec.proofs.spell.Goals as goal
 
-pub returns-then-s-at : goal.returns-then-s-at
-returns-then-s-at c = not_passed (word_short c.args.bytes.now c.args.s.now c.args.at c.if-s-at.true)
-
-pub returns-then-s-at-2 : goal.returns-then-s-at-2
-returns-then-s-at-2 c = not_spelled c.loop-i.invariant c.loop-i-test.true (omega arith) c.if-s-at-2.true
-
-pub loop-i-preserved : goal.loop-i-preserved
-loop-i-preserved c = spelled_more c.loop-i.invariant c.loop-i-test.true (omega arith) c.if-s-at-2.false
+pub returns-then-starts_with : goal.returns-then-starts_with
+returns-then-starts_with c =
+    spelled c.args.bytes.now c.requires c.starts_with.ensures.value (c.starts_with.ensures.bound c.if-starts_with.true)
+    c.if-starts_with.true
 
 pub returns : goal.returns
-returns c = all_spelled c.loop-i.invariant c.loop-i-test.false c.requires.1
+returns c = not_spelled c.args.bytes.now c.requires c.starts_with.ensures.value c.if-starts_with.false

@@ -14,10 +14,10 @@ returns-then-kind-lt16 c = ap form_width (sym (no_form c.args.kind (inl c.if-kin
 
 pub returns-then-k-ge14 : goal.returns-then-k-ge14
 unfolding kind_width form_width
-returns-then-k-ge14 c = ap form_width (sym (no_form c.args.kind (inr (omega (arith, c.extend-k.ensures)))))
+returns-then-k-ge14 c = ap form_width (sym (no_form c.args.kind (inr (omega (arith, c.from-k.ensures)))))
 
 pub returns : goal.returns
 unfolding form_width body_width
 returns c =
-    let e : 16 + (c.extend-k.result - 16) ≡ c.args.kind = omega (arith, c.extend-k.ensures) in
-    c.extend.ensures ∙ sym (kind_width_lem (c.extend-k.result - 16)) ∙ ap kind_width e
+    let e : 16 + (c.from-k.result - 16) ≡ c.args.kind = omega (arith, c.from-k.ensures) in
+    c.from.ensures ∙ sym (kind_width_lem (c.from-k.result - 16)) ∙ ap kind_width e

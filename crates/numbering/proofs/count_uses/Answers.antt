@@ -1,36 +1,23 @@
-use mathlib.Core.Path.{refl, sym, ap, ◌∙◌}
-use Prim.Native.Nat.{ℕ}
+use mathlib.Core.Path.{refl}
+use Prim.Native.Nat.{◌<◌}
 use native.Mathlib.Omega.{arith}
-use lib.ListN.{length, length-replicate}
-use Rattle.numbering.specs.Counting.{fine_read, fine_sizes, counted_roots, counted_more, counted_all, Named, named_there}
+use Rattle.std.proofs.Common.{length-take-le, get_or-take}
+use Rattle.numbering.specs.Counting.{counted_start, counted_more, counted_all, named_few}
 use Rattle.numbering.proofs.count_uses.Goals as goal
-use Rattle.numbering.proofs.count_uses.Goals.{After-children_at-c}
 
--- WHAT IS KNOWN THERE
-named : (c : After-children_at-c) → Named (fine_read c.requires).0 c.loop-n.n c.children_at-c.result
-named c = named_there c.requires c.loop-n-test.true refl c.children_at-c.ensures
+pub loop-start-init : goal.loop-start-init
+loop-start-init c f = counted_start f c.count_roots.ensures
 
-pub write_roots-k-requires : goal.write_roots-k-requires
-write_roots-k-requires c = omega (arith, (fine_sizes c.requires).root)
+pub shared_ref_as_front-count_all : goal.shared_ref_as_front-count_all
+shared_ref_as_front-count_all c = rw c.children_at-c.ensures (named_few _ _)
 
-pub loop-n-init : goal.loop-n-init
-loop-n-init c f = counted_roots f c.write_roots-k.ensures (length-replicate {A = ℕ} 9 0) refl c.count_all.ensures
-
-pub offset_bounds-t-n : goal.offset_bounds-t-n
-offset_bounds-t-n c = omega (arith, (fine_sizes c.requires).nodes, c.loop-n-test.true)
-
-pub bounds-t-n : goal.bounds-t-n
-bounds-t-n c = omega (arith, (fine_sizes c.requires).nodes, c.loop-n-test.true)
-
-pub slice_bounds-nodes-end : goal.slice_bounds-nodes-end
-slice_bounds-nodes-end c = let k = named (goal.at.slice_bounds-nodes-end c).After-children_at-c in omega (arith, k.few, k.long)
-
-pub slice_bounds-count_all-end-in-loop-n : goal.slice_bounds-count_all-end-in-loop-n
-slice_bounds-count_all-end-in-loop-n c = let k = named (goal.at.slice_bounds-count_all-end-in-loop-n c).After-children_at-c in k.many ∙ sym (ap length k.are)
-
-pub loop-n-preserved : goal.loop-n-preserved
-loop-n-preserved c f =
-    counted_more f (c.loop-n.invariant f) c.loop-n-test.true refl c.children_at-c.ensures refl c.count_all-in-loop-n.ensures
+pub loop-start-preserved : goal.loop-start-preserved
+loop-start-preserved c f =
+    let i : c.loop-start.start-index < c.args.t.nodes =
+    omega (arith, c.loop-start-test.true, length-take-le c.args.t.nodes c.args.t.starts (omega arith)) in
+    counted_more f (c.loop-start.invariant f) i (get_or-take c.args.t.nodes c.args.t.starts c.loop-start.start-index 0 i) c.children_at-c.ensures
+    refl c.count_all.ensures
 
 pub returns : goal.returns
-returns c = counted_all c.requires (c.loop-n.invariant c.requires) c.loop-n-test.false
+returns c f =
+    counted_all f (c.loop-start.invariant f) (omega (arith, c.loop-start-test.false, length-take-le c.args.t.nodes c.args.t.starts (omega arith)))

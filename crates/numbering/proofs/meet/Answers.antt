@@ -1,7 +1,7 @@
-use mathlib.Core.Path.{refl, sym, ap, ◌∙◌}
+use mathlib.Core.Path.{refl}
 use Prim.Native.Nat.{ℕ, ◌≤◌, ◌<◌}
 use native.Mathlib.Omega.{arith}
-use lib.ListN.{length, get_or, length-replicate}
+use lib.ListN.{get_or, length-replicate}
 use Rattle.numbering.specs.Counting.{fine_read, fine_sizes, Named, named_there}
 use Rattle.numbering.specs.Meeting.{meeting_starts, room, next_in, below_few, meeting_next, meeting_ends}
 use Rattle.numbering.proofs.meet.Goals as goal
@@ -21,7 +21,7 @@ named : (c : After-children_at-c) →
     Named (fine_read c.requires.fine).0 (get_or c.loop-top.todo c.loop-top.top 0) c.children_at-c.result
 named c =
     let g = c.requires in
-    named_there g.fine (next_in g.fine g.once (c.loop-top.invariant g) c.loop-top-test.true) refl c.children_at-c.ensures
+    named_there g.fine (next_in g.fine g.once (c.loop-top.invariant g) c.loop-top-test.true) refl (rw c.from.ensures at c.children_at-c.ensures)
 
 pub overflow_sub-top : goal.overflow_sub-top
 overflow_sub-top c = omega (arith, (fine_sizes c.requires.fine).sections)
@@ -38,27 +38,21 @@ bounds-nodes-count c = omega (arith, few (goal.at.bounds-nodes-count c).In-loop-
 pub overflow_add-count : goal.overflow_add-count
 overflow_add-count c = omega (arith, few (goal.at.overflow_add-count c).In-loop-top)
 
-pub overflow_cast-n : goal.overflow_cast-n
-overflow_cast-n c = omega (arith, inside (goal.at.overflow_cast-n c).In-loop-top)
+pub offset_bounds-t-from : goal.offset_bounds-t-from
+offset_bounds-t-from c = omega (arith, inside (goal.at.offset_bounds-t-from c).In-loop-top)
 
-pub offset_bounds-t-n : goal.offset_bounds-t-n
-offset_bounds-t-n c = omega (arith, inside (goal.at.offset_bounds-t-n c).In-loop-top)
-
-pub bounds-t-n : goal.bounds-t-n
-bounds-t-n c = omega (arith, inside (goal.at.bounds-t-n c).In-loop-top)
+pub bounds-t-from : goal.bounds-t-from
+bounds-t-from c = omega (arith, inside (goal.at.bounds-t-from c).In-loop-top)
 
 pub overflow_sub-top-in-loop-top : goal.overflow_sub-top-in-loop-top
 overflow_sub-top-in-loop-top c =
     let g = c.requires in
-    below_few g.fine g.once (c.loop-top.invariant g) c.loop-top-test.true
-    (named (goal.at.overflow_sub-top-in-loop-top c).After-children_at-c)
+    let v = c.loop-top.invariant g in
+    below_few g.fine g.once v c.loop-top-test.true
+    (named_there g.fine (next_in g.fine g.once v c.loop-top-test.true) refl (rw c.from.ensures at c.children_at-c.ensures))
 
-pub slice_bounds-below-end : goal.slice_bounds-below-end
-slice_bounds-below-end c = let n = named (goal.at.slice_bounds-below-end c).After-children_at-c in omega (arith, n.few, n.long)
-
-pub slice_bounds-bytes-end-in-loop-top : goal.slice_bounds-bytes-end-in-loop-top
-slice_bounds-bytes-end-in-loop-top c =
-    let n = named (goal.at.slice_bounds-bytes-end-in-loop-top c).After-children_at-c in n.many ∙ sym (ap length n.are)
+pub shared_ref_as_front-bytes : goal.shared_ref_as_front-bytes
+shared_ref_as_front-bytes c = let n = named (goal.at.shared_ref_as_front-bytes c).After-children_at-c in omega (arith, n.few)
 
 pub loop-top-smaller : goal.loop-top-smaller
 loop-top-smaller c = omega (arith, few (goal.at.loop-top-smaller c).In-loop-top)
@@ -67,7 +61,7 @@ pub loop-top-preserved : goal.loop-top-preserved
 loop-top-preserved c g =
     let i = c.loop-top-test.true in
     let v = c.loop-top.invariant g in
-    meeting_next g.fine g.once v i (named_there g.fine (next_in g.fine g.once v i) refl c.children_at-c.ensures) refl
+    meeting_next g.fine g.once v i (named_there g.fine (next_in g.fine g.once v i) refl (rw c.from.ensures at c.children_at-c.ensures)) refl
     c.bytes.ensures
 
 pub returns : goal.returns

@@ -4,8 +4,8 @@ use Rattle.numbering.specs.Counting.{fine_sizes}
 use Rattle.numbering.specs.Places.{wrote_anew}
 use Rattle.numbering.proofs.write.Goals as goal
 
-pub bounds-m-k : goal.bounds-m-k
-bounds-m-k c = omega (arith, (fine_sizes c.requires).root)
+pub bounds-m-t : goal.bounds-m-t
+bounds-m-t c = omega (arith, (fine_sizes c.requires).root)
 
 pub overflow_cast-t : goal.overflow_cast-t
 overflow_cast-t c = omega (arith, (fine_sizes c.requires).k)

@@ -9,8 +9,7 @@ overflow_cast-root c =
     omega (arith, root_small c.args.sheet.now i c.section_root-root.ensures (c.type_inv.sheet (4 + 2 * i)))
 
 pub loop-i-preserved : goal.loop-i-preserved
-loop-i-preserved c =
-    rooted_more c.loop-i.invariant c.loop-i-test.true c.section_root-root.ensures c.byte-end-in-loop-i.ensures
+loop-i-preserved c = rooted_more c.loop-i.invariant (omega arith) c.section_root-root.ensures c.byte-end-in-loop-i.ensures
 
 pub returns : goal.returns
-returns c = rooted_all c.byte-end.ensures c.loop-i.invariant c.loop-i-test.false
+returns c = rooted_all c.byte-end.ensures c.loop-i.invariant (omega arith)

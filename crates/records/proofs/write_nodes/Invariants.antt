@@ -1,10 +1,6 @@
 -- `records::write_nodes` meets its contract: i records are written. Assumes nothing.
-use Prim.Native.Nat.{◌-◌}
 use Rattle.records.specs.AnewLaws.{Listed}
 use Rattle.records.proofs.write_nodes.Given as goal
 
 abbrev pub invariant-loop-i : goal.invariant-loop-i
 invariant-loop-i l = Listed l.s l.t.starts l.m l.i l.at l.initial.out l.out l.end
-
-abbrev pub decreases-loop-i : goal.decreases-loop-i
-decreases-loop-i l = l.m.count - l.i

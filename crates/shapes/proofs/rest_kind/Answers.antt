@@ -1,14 +1,15 @@
 -- `shapes::rest_kind` meets its contract.
-use mathlib.Core.Path.{sym, ◌∙◌}
+use mathlib.Core.Path.{◌∙◌}
 use Rattle.shapes.proofs.TestsLaws.{rest_none}
-use Rattle.shapes.proofs.Answers.{rest_lost, rest_found}
+use Rattle.shapes.proofs.Answers.{is_three, no_three, rest_lost, rest_found}
 use Rattle.shapes.proofs.rest_kind.Goals as goal
 
-pub returns-then-kind_at-ne3 : goal.returns-then-kind_at-ne3
-returns-then-kind_at-ne3 c = rest_none c.args.v.now (λ e. c.if-kind_at-ne3.true (c.kind_at.ensures ∙ e))
+pub returns-then-ne : goal.returns-then-ne
+returns-then-ne c = rest_none c.args.v.now (no_three c.kind_at.result c.kind_at.ensures c.if-ne.ensures)
 
-pub returns-in-None : goal.returns-in-None
-returns-in-None c = rest_lost c.args.v.now (sym c.kind_at.ensures ∙ c.if-kind_at-ne3.false) c.in-None.ensures
+pub returns-in_err-middle : goal.returns-in_err-middle
+returns-in_err-middle c =
+    rw c.from_residual.ensures (rest_lost c.args.v.now (is_three c.kind_at.result c.kind_at.ensures c.if-ne.ensures) c.in_err-middle.ensures)
 
-pub returns-in-Some : goal.returns-in-Some
-returns-in-Some c = c.kind_at-in-Some.ensures ∙ rest_found c.args.v.now (sym c.kind_at.ensures ∙ c.if-kind_at-ne3.false) c.in-Some.ensures
+pub returns : goal.returns
+returns c = c.kind_at-2.ensures ∙ rest_found c.args.v.now (is_three c.kind_at.result c.kind_at.ensures c.if-ne.ensures) c.in_ok-middle.ensures

@@ -21,4 +21,4 @@ pub returns : goal.returns
 returns c =
     let w = c.from.result in
     let e : 16 + (w - 16) ≡ c.args.kind = omega (arith, c.from.ensures) in
-    sym (part_at_lem (w - 16) c.args.i (omega (arith, c.from.ensures)) (omega arith)) ∙ ap (λ (k : ℕ). part_at k c.args.i) e
+    rw c.from-2.ensures (sym (part_at_lem (w - 16) c.args.i (omega (arith, c.from.ensures)) (omega arith)) ∙ ap (λ (k : ℕ). part_at k c.args.i) e)

@@ -1,10 +1,6 @@
--- `is_proper` meets its contract. The invariant: i of the numbers are judged. Assumes nothing.
-use Prim.Native.Nat.{◌-◌}
+-- `is_proper` meets its contract. The invariant: so many of the numbers are judged. Assumes nothing.
 use Rattle.starts.proofs.Lookup.{Judged}
 use Rattle.starts.proofs.is_proper.Given as goal
 
-abbrev pub invariant-loop-i : goal.invariant-loop-i
-invariant-loop-i l = Judged l.starts l.len l.low l.i
-
-abbrev pub decreases-loop-i : goal.decreases-loop-i
-decreases-loop-i l = l.starts.count - l.i
+abbrev pub invariant-loop-start : goal.invariant-loop-start
+invariant-loop-start l = Judged l.fn.starts l.len l.low l.start-index

@@ -9,4 +9,4 @@ pub returns-in-Refused : goal.returns-in-Refused
 returns-in-Refused c = read_refused _ c.in-Refused.is c.pack_told-in-Refused.ensures
 
 pub returns-in-At : goal.returns-in-At
-returns-in-At c = read_fault _ c.in-At.is c.pack_told-in-At.ensures
+returns-in-At c = read_fault _ c.in-At.is (rw c.from.ensures at c.pack_told-in-At.ensures)

@@ -1,19 +1,20 @@
 -- `value::numeral` meets its contract: a number of kind 04, one of kind 06, or an unknown kind.
 use native.Mathlib.Omega.{arith}
+use Rattle.value.specs.Reader.{small, large}
 use Rattle.value.proofs.Reader.{number_begins, wide_begins, reads_unknown}
 use Rattle.value.proofs.numeral.Goals as goal
 
-pub body-requires : goal.body-requires
-body-requires c =
+pub number_of-requires : goal.number_of-requires
+number_of-requires c =
     let p = c.requires.0 in
-    number_begins p.byte p.some c.if-kind-eq4.true (λ i. omega (arith, c.type_inv.s i))
+    small (number_begins p.byte p.some c.in-4.is (λ i. omega (arith, c.type_inv.s i)))
 
-pub wide-requires : goal.wide-requires
-wide-requires c =
+pub number_of-requires-in-6 : goal.number_of-requires-in-6
+number_of-requires-in-6 c =
     let p = c.requires.0 in
-    wide_begins p.byte p.some c.if-kind-eq6.true (λ i. omega (arith, c.type_inv.s i))
+    large (wide_begins p.byte p.some c.in-6.is (λ i. omega (arith, c.type_inv.s i)))
 
-pub returns : goal.returns
-returns c =
+pub returns-in_default : goal.returns-in_default
+returns-in_default c =
     let p = c.requires.0 in
-    reads_unknown (λ e. omega (arith, p.byte)) (λ e. omega (arith, p.some)) (omega (arith, p.no_pair, c.requires.1))
+    reads_unknown (λ e. omega (arith, p.byte)) (λ e. omega (arith, p.some)) (omega (arith, p.no_pair, c.requires.1, c.in_default))

@@ -1,5 +1,4 @@
 use native.Mathlib.Omega.{arith}
-use Prim.Native.Nat.{◌≤◌, ◌<◌}
 use Rattle.std.specs.Prelude.{Some, Ok}
 use Rattle.value.specs.Reader.{from}
 use Rattle.value.proofs.Progress.{NextIs, as_malformed, as_too_long, as_missing, next_is, next_short, at_start, too_many, stops, goes_on}

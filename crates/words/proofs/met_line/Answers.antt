@@ -4,5 +4,6 @@ use Rattle.words.proofs.met_line.Goals as goal
 
 pub returns : goal.returns
 returns c =
-    wrote_met _ _ _ c.bytes-end.ensures c.decimal_word-end.ensures c.node_word-end.ensures c.decimal_word-end-2.ensures
-    c.node_words-end.ensures c.by_words-end.ensures c.byte.ensures
+    wrote_met _ _ _ c.bytes-end.ensures (rw c.from.ensures at c.decimal_word-end.ensures) (rw c.from-2.ensures at c.decimal_word-end-2.ensures)
+    c.decimal_word-end-3.ensures
+    c.number_words-end.ensures c.by_words-end.ensures c.byte.ensures

@@ -13,4 +13,4 @@ returns-then-input-sheet-2 c =
 pub returns : goal.returns
 returns c =
     fields_whole _ c.number_at-sheet.ensures.0 (omega arith) c.number_at-plan.ensures.0 (omega arith)
-    (omega (arith, c.extend.ensures.0, c.extend-2.ensures.0, c.extend-3.ensures.0))
+    (omega (arith, c.from_be_bytes-allowance.ensures))

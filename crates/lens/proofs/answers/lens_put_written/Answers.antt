@@ -14,7 +14,8 @@ returns c =
     let p = c.put-answer.ensures in
     let few = put_few p.put_answered in
     record {
-      packed_put = counted_put _ _ _ _ _ _ p.put_answered c.pack-packed.ensures (starts_handed _ _ c.hand_out.ensures few (omega (arith, few)));
+      packed_put = counted_put _ _ _ _ _ _ p.put_answered c.pack-packed.ensures
+          (starts_handed _ _ c.hand.ensures c.from.ensures (omega arith) few (omega (arith, few)));
       consistent = rw (counted_back _ _ _ _ _ _ p.put_answered c.pack-packed.ensures) p.consistent;
       written_after = bits_put _ _ _ _ _ _ p.put_answered c.pack-packed.ensures _ c.hand_bits.ensures;
     }

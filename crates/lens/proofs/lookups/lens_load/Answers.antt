@@ -7,4 +7,4 @@ pub returns : goal.returns
 returns c =
     let l = c.load-loaded.ensures in
     let few = few_loaded _ _ l in
-    counted_load l c.pack.ensures (starts_handed _ _ c.hand_out.ensures few (omega (arith, few)))
+    counted_load l c.pack.ensures (starts_handed _ _ c.hand.ensures c.from.ensures (omega arith) few (omega (arith, few)))

@@ -21,7 +21,7 @@ returns-in-Passes c =
 
 pub returns-in-Refused : goal.returns-in-Refused
 returns-in-Refused c =
-    wrote_text c.refusal-in-Refused.ensures (checked_refused c.in-Refused.is ∙ line-is (goal.at.returns-in-Refused c).After-check-answer)
+    wrote_text (rw c.from.ensures at c.refusal-in-Refused.ensures) (checked_refused c.in-Refused.is ∙ line-is (goal.at.returns-in-Refused c).After-check-answer)
 
 pub returns-in-At : goal.returns-in-At
 returns-in-At c =

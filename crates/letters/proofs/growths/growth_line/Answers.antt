@@ -1,4 +1,5 @@
 -- `growth_line` meets its contract: a field is cut, or a case of what is reported. Assumes nothing.
+use mathlib.Core.Path.{◌∙◌}
 use Rattle.report.specs.Writing.{wrote_text}
 use Rattle.letters.specs.Growths.{growth_cut, growth_times, growth_refused}
 use Rattle.letters.proofs.growths.growth_line.Goals as goal
@@ -9,10 +10,10 @@ returns-then-input-lt2 c =
 
 pub returns-in-Times : goal.returns-in-Times
 returns-in-Times c =
-    wrote_text c.times_line.ensures
-    (growth_times _ c.if-input-lt2.false c.byte_at-variable.ensures c.rest_from.ensures c.growth.ensures c.in-Times.is)
+    wrote_text c.line.ensures
+    (growth_times _ c.if-input-lt2.false (c.from-variable.ensures ∙ c.byte_at.ensures) c.rest_from.ensures c.growth.ensures c.in-Times.is)
 
 pub returns-in-Refused : goal.returns-in-Refused
 returns-in-Refused c =
-    wrote_text c.refusal-in-Refused.ensures
-    (growth_refused _ c.if-input-lt2.false c.byte_at-variable.ensures c.rest_from.ensures c.growth.ensures c.in-Refused.is)
+    wrote_text (rw c.from.ensures at c.refusal-in-Refused.ensures)
+    (growth_refused _ c.if-input-lt2.false (c.from-variable.ensures ∙ c.byte_at.ensures) c.rest_from.ensures c.growth.ensures c.in-Refused.is)

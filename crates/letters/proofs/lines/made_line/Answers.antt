@@ -8,14 +8,14 @@ use Rattle.letters.proofs.lines.made_line.Goals as goal
 
 pub returns-then-plain : goal.returns-then-plain
 returns-then-plain c =
-    wrote_text c.plain_line.ensures
-    (ap (λ bs. ok_line (bs ∷ [])) c.part_at.ensures ∙ made_plain _ c.in-Done.is c.if-plain.true)
+    wrote_text c.line.ensures
+    (ap (λ bs. ok_line (bs ∷ [])) c.part_at-bytes.ensures ∙ made_plain _ c.in-Done.is c.if-plain.true)
 
 pub returns-else-plain : goal.returns-else-plain
 returns-else-plain c =
-    wrote_text c.part_line.ensures
-    (ap (λ bs. ok_line (hex_of bs ∷ [])) c.part_at-in-Done.ensures ∙ made_hex _ c.in-Done.is c.if-plain.false)
+    wrote_text c.line-in-Done.ensures
+    (ap (λ bs. ok_line (hex_of bs ∷ [])) c.part_at-bytes.ensures ∙ made_hex _ c.in-Done.is c.if-plain.false)
 
 pub returns-in-Refused : goal.returns-in-Refused
 returns-in-Refused c =
-    wrote_text c.refusal.ensures (made_refused _ _ c.in-Refused.is)
+    wrote_text (rw c.from.ensures at c.refusal.ensures) (made_refused _ _ c.in-Refused.is)

@@ -22,7 +22,7 @@ returns-then-input-sheet c =
 
 pub returns-then-loaded-ne0 : goal.returns-then-loaded-ne0
 returns-then-loaded-ne0 c =
-    wrote_text c.refusal-then-loaded-ne0.ensures (loaded_refused _ c.if-loaded-ne0.true ∙ line-is (goal.at.returns-then-loaded-ne0 c).After-load-loaded)
+    wrote_text (rw c.from.ensures at c.refusal-then-loaded-ne0.ensures) (loaded_refused _ c.if-loaded-ne0.true ∙ line-is (goal.at.returns-then-loaded-ne0 c).After-load-loaded)
 
 pub returns : goal.returns
 returns c =

@@ -19,14 +19,14 @@ pub returns-in-Done : goal.returns-in-Done
 returns-in-Done c =
     let is = read_done _ c.in-Done.is ∙ line-is (goal.at.returns-in-Done c).After-read in
     record {
-      wrote = wrote_text c.part_line.ensures (ap (λ bs. ok_line (hex_of bs ∷ [])) c.part_at.ensures ∙ is);
+      wrote = wrote_text c.line.ensures (ap (λ bs. ok_line (hex_of bs ∷ [])) c.part_at.ensures ∙ is);
       input_len_bound = fits_as is (done_fits _ _ (sheet_inside _ _ c.read.ensures.value c.in-Done.is));
     }
 
 pub returns-in-Refused : goal.returns-in-Refused
 returns-in-Refused c =
     let is = read_refused c.read.new.out c.in-Refused.is ∙ line-is (goal.at.returns-in-Refused c).After-read in
-    record { wrote = wrote_text c.refusal.ensures is; input_len_bound = fits_as is (fits_refusal _ (omega arith)) }
+    record { wrote = wrote_text (rw c.from.ensures at c.refusal.ensures) is; input_len_bound = fits_as is (fits_refusal _ (omega arith)) }
 
 pub returns-in-At : goal.returns-in-At
 returns-in-At c =

@@ -8,11 +8,11 @@ use Rattle.letters.proofs.sheets.numbered_line.Goals as goal
 
 pub returns-in-Done : goal.returns-in-Done
 returns-in-Done c =
-    wrote_text c.part_line.ensures (ap (λ bs. ok_line (hex_of bs ∷ [])) c.part_at.ensures ∙ number_done _ c.in-Done.is)
+    wrote_text c.line.ensures (ap (λ bs. ok_line (hex_of bs ∷ [])) c.part_at.ensures ∙ number_done _ c.in-Done.is)
 
 pub returns-in-Refused : goal.returns-in-Refused
 returns-in-Refused c =
-    wrote_text c.refusal.ensures (number_refused _ c.in-Refused.is)
+    wrote_text (rw c.from.ensures at c.refusal.ensures) (number_refused _ c.in-Refused.is)
 
 pub returns-in-Twice : goal.returns-in-Twice
 returns-in-Twice c =

@@ -1,7 +1,10 @@
--- `letter_at` meets its contract. Assumes nothing.
+use mathlib.Core.Path.{◌∙◌}
 use native.Mathlib.Omega.{arith}
-use Rattle.parsing.specs.Expect.{letter_first_lem}
+use Rattle.parsing.specs.Expect.{letter_yes, letter_no}
 use Rattle.parsing.proofs.expect.letter_at.Goals as goal
 
-pub returns : goal.returns
-returns c = letter_first_lem c.args.text.now c.args.at (omega arith) c.class.ensures
+pub returns-in-Letter : goal.returns-in-Letter
+returns-in-Letter c = letter_yes c.args.text.now c.args.at (omega arith) c.in-Letter.ensures
+
+pub returns-in_default : goal.returns-in_default
+returns-in_default c = letter_no c.args.text.now c.args.at (omega arith) (λ q. c.in_default.not-Letter (c.of.ensures ∙ q))

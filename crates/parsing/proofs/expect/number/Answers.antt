@@ -7,20 +7,20 @@ pub returns-then-zero_first : goal.returns-then-zero_first
 returns-then-zero_first c =
     rw c.fault.ensures (zero_fault c.requires c.args.detail c.args.c (sym c.zero_first.ensures ∙ c.if-zero_first.true))
 
-pub overflow_sub-w : goal.overflow_sub-w
-overflow_sub-w c =
+pub overflow_sub-digit : goal.overflow_sub-digit
+overflow_sub-digit c =
     let d = digit_at c.requires c.loop-i.i c.loop-i.invariant.later (omega arith) in
     omega arith
 
 pub returns-then-most-w : goal.returns-then-most-w
 returns-then-most-w c =
     rw c.fault-then-most-w.ensures
-    (counted_over c.requires c.loop-i.invariant c.loop-i-test.true c.args.detail c.args.c c.if-most-w.true
+    (counted_over c.requires c.loop-i.invariant c.loop-i-test.true c.args.detail c.args.c (rw c.from.ensures at c.if-most-w.true)
     (sym c.zero_first.ensures ∙ c.if-zero_first.false))
 
 pub loop-i-preserved : goal.loop-i-preserved
 loop-i-preserved c =
-    counted_more c.requires c.loop-i.invariant c.loop-i-test.true c.if-most-w.false
+    rw c.from.ensures (counted_more c.requires c.loop-i.invariant c.loop-i-test.true (rw c.from.ensures at c.if-most-w.false))
 
 pub returns-then-letter_at : goal.returns-then-letter_at
 returns-then-letter_at c =

@@ -1,5 +1,6 @@
 -- `test` meets its contract. Assumes nothing.
 use mathlib.Core.Path.{sym, ◌∙◌}
+use Rattle.parsing.specs.Names.{found_some, found_none}
 use Rattle.parsing.specs.Expect.{test_bare, test_missing, test_read}
 use Rattle.parsing.proofs.expect.test.Goals as goal
 
@@ -8,14 +9,14 @@ returns-then-not-is_word c =
     rw c.read.ensures
     (test_bare c.args.bare c.args.after c.args.c c.next-t.ensures c.if-c-ne0.false (sym c.is_word.ensures ∙ c.if-not-is_word.true))
 
-pub returns-then-n-eq7 : goal.returns-then-n-eq7
-returns-then-n-eq7 c =
+pub returns-in-None : goal.returns-in-None
+returns-in-None c =
     rw c.fault.ensures
     (test_missing c.args.bare c.args.after c.args.c c.next-t.ensures c.if-c-ne0.false (sym c.is_word.ensures ∙ c.if-not-is_word.false)
-    c.next-u.ensures c.test_number-n.ensures c.if-n-eq7.true)
+    c.next-u.ensures (found_none c.in-None.ensures))
 
-pub returns : goal.returns
-returns c =
-    rw c.read-2.ensures
+pub returns-in-Some : goal.returns-in-Some
+returns-in-Some c =
+    rw c.read-in-Some.ensures
     (test_read c.args.bare c.args.after c.args.c c.next-t.ensures c.if-c-ne0.false (sym c.is_word.ensures ∙ c.if-not-is_word.false)
-    c.next-u.ensures c.test_number-n.ensures c.if-n-eq7.false)
+    c.next-u.ensures (found_some c.in-Some.ensures))

@@ -1,12 +1,14 @@
 use Rattle.parsing.specs.Cursor.{entered}
 use mathlib.Core.Path.{refl, ap, ◌∙◌, sym, ◌≡◌}
 use native.Mathlib.Omega.{arith}
-use Rattle.parsing.specs.ConstructLaws.{amount_fault, amount_constant, amount_large, amount_added, number_kind, inner_ready, count-entered}
+use Rattle.parsing.specs.ConstructLaws.{amount_fault, amount_constant, amount_large, amount_added, inner_ready, count-entered}
 use Rattle.parsing.specs.ConstructLaws.{count-behind, parsed_on, back_bar, back_full, back_comma, back_none, back_end_full, back_end, ready_inner}
 use Rattle.parsing.specs.ConstructLaws.{branch_parsed, branches_on, branches_truth, branches_none, branches_lists, code-behind, case_parsed}
 use Rattle.parsing.specs.ConstructLaws.{parsed_at, default_parsed, each_parsed, goes_at, expr_none, expr_full, expr_shaped, front_parsed, let_parsed}
 use Rattle.parsing.specs.ConstructLaws.{parsed_in, wider_top, list_empty, list_front, lists_parsed, cased_ready, pair_parsed, shaped_let, shaped_case}
-use Rattle.parsing.specs.ConstructLaws.{shaped_each, shaped_pair, shaped_list, truth_parsed}
+use Rattle.parsing.specs.ConstructLaws.{shaped_each, shaped_pair, shaped_list, leaf_false, leaf_true, leaf_hash, truth_parsed}
+use Rattle.parsing.specs.Names.{fails}
+use Rattle.parsing.specs.Expressions.{number_kind}
 use borrow.Author.Rules.{rules}
 use lib.ListN.{length-set, length}
 use Prim.Native.Nat.{ℕ, ◌+◌, ◌≤◌, ◌<◌}
@@ -23,13 +25,13 @@ pub amount-number-v-requires : goal.amount-number-v-requires
 amount-number-v-requires t c =
     let b = c.requires.1 in
     let g = b.is_next.shape in
-    let k = number_kind b refl in
+    let k = number_kind c.args.text.now c.args.t b.coded in
     record { order = (g.a_number k).0; inside = g.inside; all = (g.a_number k).1; large = omega arith }
 
 pub amount-returns-then-v-ne0 : goal.amount-returns-then-v-ne0
 amount-returns-then-v-ne0 t c =
     let w = c.requires.0 in
-    amount_fault c.args.table.now c.args.sc c.requires.1 (number_kind c.requires.1 refl) w.clear c.number-v.ensures w.ready.few
+    amount_fault c.args.table.now c.args.sc c.requires.1 w.clear c.number-v.ensures w.ready.few
     c.if-v-ne0.true
 
 pub amount-constant-requires : goal.amount-constant-requires
@@ -39,19 +41,19 @@ amount-constant-requires t c =
     let f = w.free in
     (omega arith, w.ready.slots_long)
 
-pub amount-returns-then-plus-ne43 : goal.amount-returns-then-plus-ne43
-amount-returns-then-plus-ne43 t c =
+pub amount-returns-then-not-is : goal.amount-returns-then-not-is
+amount-returns-then-not-is t c =
     let w = c.requires.0 in
-    amount_constant c.args.table.now c.args.sc c.requires.1 (number_kind c.requires.1 refl) w.clear c.number-v.ensures c.if-v-ne0.false
+    amount_constant c.args.table.now c.args.sc c.requires.1 w.clear c.number-v.ensures c.if-v-ne0.false
     c.next-plus.ensures
-    w.free c.if-plus-ne43.true c.constant.ensures.value c.constant.ensures.constant c.constant.ensures.kept
+    w.free (fails c.is.ensures c.if-not-is.true) c.constant.ensures.value c.constant.ensures.constant c.constant.ensures.kept
 
 pub amount-returns-then-v-gt65535 : goal.amount-returns-then-v-gt65535
 amount-returns-then-v-gt65535 t c =
     let w = c.requires.0 in
-    rw c.fault.ensures (amount_large c.args.table.now c.args.sc c.requires.1 (number_kind c.requires.1 refl) w.clear
+    rw c.fault.ensures (amount_large c.args.table.now c.args.sc c.requires.1 w.clear
     c.number-v.ensures c.if-v-ne0.false c.next-plus.ensures
-    w.ready.few c.if-plus-ne43.false c.if-v-gt65535.true)
+    w.ready.few (c.is.ensures.0 c.if-not-is.false) c.if-v-gt65535.true)
 
 pub amount-enter-inner-requires : goal.amount-enter-inner-requires
 amount-enter-inner-requires t c =
@@ -89,9 +91,10 @@ amount-store-requires t c =
 pub amount-returns : goal.amount-returns
 amount-returns t c =
     let w = c.requires.0 in
-    amount_added c.args.table.now c.args.sc c.requires.1 (number_kind c.requires.1 refl) w.clear c.number-v.ensures c.if-v-ne0.false
+    amount_added c.args.table.now c.args.sc c.requires.1 w.clear c.number-v.ensures c.if-v-ne0.false
     c.next-plus.ensures
-    w.free w.ready.slots_long c.if-plus-ne43.false c.if-v-gt65535.false (c.enter-inner.ensures ∙ ap entered c.read.ensures) c.expr-a.ensures c.store.ensures
+    w.free w.ready.slots_long (c.is.ensures.0 c.if-not-is.false) c.if-v-gt65535.false (c.enter-inner.ensures ∙ ap entered c.read.ensures) c.expr-a.ensures
+    c.store.ensures
 
 -- BACK
 pub back-returns-then-c-ne0 : goal.back-returns-then-c-ne0
@@ -109,35 +112,37 @@ back-expr-b-requires t c =
           { table_few = w.table_few; names_long = w.names_long; slots_long = w.slots_long; few = omega arith; low = omega arith },
     )
 
-pub back-returns-then-t-eq124 : goal.back-returns-then-t-eq124
-back-returns-then-t-eq124 t c =
-    back_bar c.next-t.ensures c.if-c-ne0.false c.if-t-eq124.true c.read.ensures c.expr-b.ensures c.symbol.ensures
+pub back-returns-then-is : goal.back-returns-then-is
+back-returns-then-is t c =
+    back_bar c.next-t.ensures c.if-c-ne0.false (c.is.ensures.0 c.if-is.true) c.read.ensures c.expr-b.ensures c.symbol.ensures
 
 pub back-returns-then-c-eq200 : goal.back-returns-then-c-eq200
 back-returns-then-c-eq200 t c =
-    rw c.fault.ensures (back_full c.next-t.ensures c.if-c-ne0.false c.if-t-eq44.true c.if-c-eq200.true)
+    rw c.fault.ensures (back_full c.next-t.ensures c.if-c-ne0.false (c.is-2.ensures.0 c.if-is-2.true) c.if-c-eq200.true)
 
 pub back-front-requires : goal.back-front-requires
 back-front-requires t c =
-    let i = count-behind c.args.c c.read-then-t-eq44.ensures in
+    let i = count-behind c.args.c c.read-then-is-2.ensures in
     let w = c.requires in
     let f = w.few in
     let q = c.if-c-eq200.false in
-    (omega (arith, c.decreases), ready_inner c.args.c w (omega arith) c.read-then-t-eq44.ensures)
+    (omega (arith, c.decreases), ready_inner c.args.c w (omega arith) c.read-then-is-2.ensures)
 
-pub back-returns-then-t-eq44 : goal.back-returns-then-t-eq44
-back-returns-then-t-eq44 t c =
+pub back-returns-then-is-2 : goal.back-returns-then-is-2
+back-returns-then-is-2 t c =
     let f = c.requires.few in
     let q = c.if-c-eq200.false in
-    back_comma c.next-t.ensures c.if-c-ne0.false c.if-t-eq44.true (omega arith) c.read-then-t-eq44.ensures c.front.ensures
+    back_comma c.next-t.ensures c.if-c-ne0.false (c.is-2.ensures.0 c.if-is-2.true) (omega arith) c.read-then-is-2.ensures c.front.ensures
 
-pub back-returns-then-t-ne93 : goal.back-returns-then-t-ne93
-back-returns-then-t-ne93 t c =
-    rw c.fault-then-t-ne93.ensures (back_none c.next-t.ensures c.if-c-ne0.false c.requires.few c.if-t-eq124.false c.if-t-eq44.false c.if-t-ne93.true)
+pub back-returns-then-not-is : goal.back-returns-then-not-is
+back-returns-then-not-is t c =
+    rw c.fault-then-not-is.ensures
+    (back_none c.next-t.ensures c.if-c-ne0.false c.requires.few (fails c.is.ensures c.if-is.false) (fails c.is-2.ensures c.if-is-2.false)
+    (fails c.is-3.ensures c.if-not-is.true))
 
 pub back-returns-then-c-eq200-2 : goal.back-returns-then-c-eq200-2
 back-returns-then-c-eq200-2 t c =
-    rw c.fault-then-c-eq200-2.ensures (back_end_full c.next-t.ensures c.if-c-ne0.false c.if-t-ne93.false c.if-c-eq200-2.true)
+    rw c.fault-then-c-eq200-2.ensures (back_end_full c.next-t.ensures c.if-c-ne0.false (c.is-3.ensures.0 c.if-not-is.false) c.if-c-eq200-2.true)
 
 pub back-bare-requires : goal.back-bare-requires
 back-bare-requires t c =
@@ -150,7 +155,8 @@ pub back-returns : goal.back-returns
 back-returns t c =
     let f = c.requires.few in
     let h = c.if-c-eq200-2.false in
-    back_end c.next-t.ensures c.if-c-ne0.false c.requires.slots_long c.if-t-ne93.false (omega arith) c.read-2.ensures c.bare.ensures.slots_after
+    back_end c.next-t.ensures c.if-c-ne0.false c.requires.slots_long (c.is-3.ensures.0 c.if-not-is.false) (omega arith) c.read-2.ensures
+    c.bare.ensures.slots_after
     c.bare.ensures.value
 
 -- BRANCH
@@ -178,10 +184,6 @@ pub branches-returns-then-c-ne0 : goal.branches-returns-then-c-ne0
 branches-returns-then-c-ne0 t c =
     branches_on c.requires.few c.if-c-ne0.true
 
-pub branches-is_word-requires : goal.branches-is_word-requires
-branches-is_word-requires t c =
-    (c.next-t.ensures.shape, omega arith)
-
 pub branches-truth_case-requires : goal.branches-truth_case-requires
 branches-truth_case-requires t c =
     let w = c.requires in
@@ -200,9 +202,10 @@ pub branches-returns-then-is_word : goal.branches-returns-then-is_word
 branches-returns-then-is_word t c =
     branches_truth c.next-t.ensures c.if-c-ne0.false c.read.ensures (sym c.is_word.ensures ∙ c.if-is_word.true) c.truth_case.ensures
 
-pub branches-returns-then-t-ne91 : goal.branches-returns-then-t-ne91
-branches-returns-then-t-ne91 t c =
-    rw c.fault.ensures (branches_none c.next-t.ensures c.if-c-ne0.false c.requires.few (sym c.is_word.ensures ∙ c.if-is_word.false) c.if-t-ne91.true)
+pub branches-returns-then-not-is : goal.branches-returns-then-not-is
+branches-returns-then-not-is t c =
+    rw c.fault.ensures
+    (branches_none c.next-t.ensures c.if-c-ne0.false c.requires.few (sym c.is_word.ensures ∙ c.if-is_word.false) (fails c.is.ensures c.if-not-is.true))
 
 pub branches-list_case-requires : goal.branches-list_case-requires
 branches-list_case-requires t c =
@@ -220,7 +223,8 @@ branches-list_case-requires t c =
 
 pub branches-returns : goal.branches-returns
 branches-returns t c =
-    branches_lists c.next-t.ensures c.if-c-ne0.false c.read-2.ensures (sym c.is_word.ensures ∙ c.if-is_word.false) c.if-t-ne91.false c.list_case.ensures
+    branches_lists c.next-t.ensures c.if-c-ne0.false c.read-2.ensures (sym c.is_word.ensures ∙ c.if-is_word.false) (c.is.ensures.0 c.if-not-is.false)
+    c.list_case.ensures
 
 -- CASE_OF
 pub case_of-enter-requires : goal.case_of-enter-requires
@@ -360,20 +364,20 @@ pub expr-returns-then-c-ne0 : goal.expr-returns-then-c-ne0
 expr-returns-then-c-ne0 t c =
     parsed_on c.requires.few c.if-c-ne0.true
 
-pub expr-begins-b-requires : goal.expr-begins-b-requires
-expr-begins-b-requires t c =
+pub expr-begins-requires : goal.expr-begins-requires
+expr-begins-requires t c =
     c.next-t.ensures.shape
 
-pub expr-returns-then-b-eq-NOTHING : goal.expr-returns-then-b-eq-NOTHING
-expr-returns-then-b-eq-NOTHING t c =
-    rw c.fault.ensures (expr_none (record { is_next = c.next-t.ensures; coded = c.begins-b.ensures }) c.if-c-ne0.false c.requires.few c.if-b-eq-NOTHING.true)
+pub expr-returns-in_default : goal.expr-returns-in_default
+expr-returns-in_default t c =
+    rw c.fault.ensures (expr_none c.next-t.ensures c.if-c-ne0.false c.requires.few (sym c.in_default.is ∙ c.begins.ensures))
 
 pub expr-returns-then-c-eq200 : goal.expr-returns-then-c-eq200
 expr-returns-then-c-eq200 t c =
     rw c.fault-then-c-eq200.ensures (expr_full (record {
       is_next = c.next-t.ensures;
-      coded = c.begins-b.ensures;
-    }) c.if-c-ne0.false c.if-b-eq-NOTHING.false c.if-c-eq200.true)
+      coded = c.in-Some.ensures;
+    }) c.if-c-ne0.false c.if-c-eq200.true)
 
 pub expr-shaped-requires : goal.expr-shaped-requires
 expr-shaped-requires t c =
@@ -382,8 +386,7 @@ expr-shaped-requires t c =
       omega (arith, c.decreases),
       (
         record { ready = c.requires; free = omega arith; clear = c.if-c-ne0.false },
-        record { is_next = c.next-t.ensures; coded = c.begins-b.ensures },
-        c.if-b-eq-NOTHING.false,
+        record { is_next = c.next-t.ensures; coded = c.in-Some.ensures },
       ),
     )
 
@@ -391,7 +394,7 @@ pub expr-returns : goal.expr-returns
 expr-returns t c =
     let f = c.requires.few in
     let q = c.if-c-eq200.false in
-    expr_shaped (record { is_next = c.next-t.ensures; coded = c.begins-b.ensures }) c.if-c-ne0.false c.if-b-eq-NOTHING.false (omega arith) c.shaped.ensures
+    expr_shaped (record { is_next = c.next-t.ensures; coded = c.in-Some.ensures }) c.if-c-ne0.false (omega arith) c.shaped.ensures
 
 -- FRONT
 pub front-enter-requires : goal.front-enter-requires
@@ -567,9 +570,9 @@ list-bare-requires t c =
     let f = c.requires.free in
     (omega arith, c.requires.ready.slots_long)
 
-pub list-returns-then-t-eq93 : goal.list-returns-then-t-eq93
-list-returns-then-t-eq93 t c =
-    list_empty c.requires c.next-t.ensures c.if-t-eq93.true c.read.ensures c.bare.ensures.slots_after c.bare.ensures.value
+pub list-returns-then-is : goal.list-returns-then-is
+list-returns-then-is t c =
+    list_empty c.requires c.next-t.ensures (c.is.ensures.0 c.if-is.true) c.read.ensures c.bare.ensures.slots_after c.bare.ensures.value
 
 pub list-front-requires : goal.list-front-requires
 list-front-requires t c =
@@ -577,7 +580,7 @@ list-front-requires t c =
 
 pub list-returns : goal.list-returns
 list-returns t c =
-    list_front c.next-t.ensures c.if-t-eq93.false c.front.ensures
+    list_front c.next-t.ensures (fails c.is.ensures c.if-is.false) c.front.ensures
 
 -- LIST_CASE
 -- WHAT IS KNOWN THERE: of what is lent, and that no node is met but below the four expressions
@@ -804,9 +807,9 @@ shaped-let_in-requires t c =
     let i = count-behind c.args.c c.read-behind.ensures in
     (omega (arith, c.decreases), ready_inner c.args.c w.ready w.free c.read-behind.ensures)
 
-pub shaped-returns-then-b-eq-LET : goal.shaped-returns-then-b-eq-LET
-shaped-returns-then-b-eq-LET t c =
-    shaped_let c.requires.1 c.requires.0.clear c.if-b-eq-LET.true c.read-behind.ensures c.let_in.ensures
+pub shaped-returns-in-Let : goal.shaped-returns-in-Let
+shaped-returns-in-Let t c =
+    shaped_let c.requires.0.clear (rw c.in-Let.is at c.requires.1) c.read-behind.ensures c.let_in.ensures
 
 pub shaped-case_of-requires : goal.shaped-case_of-requires
 shaped-case_of-requires t c =
@@ -814,9 +817,9 @@ shaped-case_of-requires t c =
     let i = count-behind c.args.c c.read-behind.ensures in
     (omega (arith, c.decreases), ready_inner c.args.c w.ready w.free c.read-behind.ensures)
 
-pub shaped-returns-then-b-eq-CASE : goal.shaped-returns-then-b-eq-CASE
-shaped-returns-then-b-eq-CASE t c =
-    shaped_case c.requires.1 c.requires.0.clear c.if-b-eq-CASE.true c.read-behind.ensures c.case_of.ensures
+pub shaped-returns-in-Case : goal.shaped-returns-in-Case
+shaped-returns-in-Case t c =
+    shaped_case c.requires.0.clear (rw c.in-Case.is at c.requires.1) c.read-behind.ensures c.case_of.ensures
 
 pub shaped-each_of-requires : goal.shaped-each_of-requires
 shaped-each_of-requires t c =
@@ -824,9 +827,9 @@ shaped-each_of-requires t c =
     let i = count-behind c.args.c c.read-behind.ensures in
     (omega (arith, c.decreases), ready_inner c.args.c w.ready w.free c.read-behind.ensures)
 
-pub shaped-returns-then-b-eq-EACH : goal.shaped-returns-then-b-eq-EACH
-shaped-returns-then-b-eq-EACH t c =
-    shaped_each c.requires.1 c.requires.0.clear c.if-b-eq-EACH.true c.read-behind.ensures c.each_of.ensures
+pub shaped-returns-in-Each : goal.shaped-returns-in-Each
+shaped-returns-in-Each t c =
+    shaped_each c.requires.0.clear (rw c.in-Each.is at c.requires.1) c.read-behind.ensures c.each_of.ensures
 
 pub shaped-pair-requires : goal.shaped-pair-requires
 shaped-pair-requires t c =
@@ -834,9 +837,9 @@ shaped-pair-requires t c =
     let i = count-behind c.args.c c.read-behind.ensures in
     (omega (arith, c.decreases), ready_inner c.args.c w.ready w.free c.read-behind.ensures)
 
-pub shaped-returns-then-b-eq-PAIR : goal.shaped-returns-then-b-eq-PAIR
-shaped-returns-then-b-eq-PAIR t c =
-    shaped_pair c.requires.1 c.requires.0.clear c.if-b-eq-PAIR.true c.read-behind.ensures c.pair.ensures
+pub shaped-returns-in-Pair : goal.shaped-returns-in-Pair
+shaped-returns-in-Pair t c =
+    shaped_pair c.requires.0.clear (rw c.in-Pair.is at c.requires.1) c.read-behind.ensures c.pair.ensures
 
 pub shaped-list-requires : goal.shaped-list-requires
 shaped-list-requires t c =
@@ -844,37 +847,31 @@ shaped-list-requires t c =
     let i = count-behind c.args.c c.read-behind.ensures in
     (omega (arith, c.decreases), ready_inner c.args.c w.ready w.free c.read-behind.ensures)
 
-pub shaped-returns-then-b-eq-LIST : goal.shaped-returns-then-b-eq-LIST
-shaped-returns-then-b-eq-LIST t c =
-    shaped_list c.requires.1 c.requires.0.clear c.if-b-eq-LIST.true c.read-behind.ensures c.list.ensures
+pub shaped-returns-in-List : goal.shaped-returns-in-List
+shaped-returns-in-List t c =
+    shaped_list c.requires.0.clear (rw c.in-List.is at c.requires.1) c.read-behind.ensures c.list.ensures
 
 pub shaped-amount-requires : goal.shaped-amount-requires
-shaped-amount-requires t c =
-    let g = c.requires.1 in
-    (omega (arith, c.decreases), (c.requires.0, record { is_next = g.is_next; coded = sym c.if-b-eq-NUMBER.true ∙ g.coded }))
+shaped-amount-requires t c = (omega (arith, c.decreases), (c.requires.0, rw c.in-Number.is at c.requires.1))
 
-pub shaped-returns-then-b-eq-NUMBER : goal.shaped-returns-then-b-eq-NUMBER
-shaped-returns-then-b-eq-NUMBER t c =
-    c.amount.ensures
+pub shaped-returns-in-False : goal.shaped-returns-in-False
+shaped-returns-in-False t c =
+    let w = c.requires.0 in
+    leaf_false w.clear (rw c.in-False.is at c.requires.1) w.free w.ready.slots_long c.read-behind.ensures c.bare.ensures.slots_after c.bare.ensures.value
 
-pub shaped-leaf-requires : goal.shaped-leaf-requires
-shaped-leaf-requires t c = (
-  c.requires.0,
-  c.requires.1,
-  (
-    c.if-b-eq-LET.false,
-    c.if-b-eq-CASE.false,
-    c.if-b-eq-EACH.false,
-    c.if-b-eq-PAIR.false,
-    c.if-b-eq-LIST.false,
-    c.if-b-eq-NUMBER.false,
-    c.requires.2,
-  ),
-)
+pub shaped-returns-in-True : goal.shaped-returns-in-True
+shaped-returns-in-True t c =
+    let w = c.requires.0 in
+    leaf_true w.clear (rw c.in-True.is at c.requires.1) w.free w.ready.slots_long c.read-behind.ensures c.bare-in-True.ensures.slots_after
+    c.bare-in-True.ensures.value
 
-pub shaped-returns : goal.shaped-returns
-shaped-returns t c =
-    c.leaf.ensures
+pub shaped-returns-in-Hash : goal.shaped-returns-in-Hash
+shaped-returns-in-Hash t c =
+    let w = c.requires.0 in
+    leaf_hash w.clear (rw c.in-Hash.is at c.requires.1) w.free c.var.ensures
+
+pub shaped-name-requires : goal.shaped-name-requires
+shaped-name-requires t c = (c.requires.0, rw c.in-Name.is at c.requires.1)
 
 -- TRUTH_CASE
 pub truth_case-branch-a-requires : goal.truth_case-branch-a-requires

@@ -1,4 +1,4 @@
--- `lookup` meets its contract: the names above i are others. Assumes nothing.
+-- `lookup` meets its contract: the names from i on are others. Assumes nothing.
 use Rattle.tokens.specs.Tokens.{word_of}
 use Rattle.lexing.specs.Lexing.{token_at}
 use Rattle.parsing.specs.Names.{Above}
@@ -6,6 +6,3 @@ use Rattle.parsing.proofs.names.lookup.Given as goal
 
 abbrev pub invariant-loop-i : goal.invariant-loop-i
 invariant-loop-i l = Above l.text l.names l.base l.many (word_of (token_at l.text l.t)) l.i
-
-abbrev pub decreases-loop-i : goal.decreases-loop-i
-decreases-loop-i l = l.i

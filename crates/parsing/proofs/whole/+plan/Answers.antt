@@ -1,5 +1,6 @@
 use mathlib.Core.Path.{◌∙◌}
 use native.Mathlib.Omega.{arith}
+use Rattle.parsing.specs.Names.{fails}
 use Rattle.parsing.specs.Whole.{plan_on, plan_full, plan_fault, plan_last, plan_more}
 use Rattle.parsing.proofs.whole.+plan.Goals as goal
 
@@ -27,11 +28,11 @@ pub overflow_add-i : goal.overflow_add-i
 overflow_add-i t c =
     let h = c.requires.0 in omega arith
 
-pub returns-then-t-ne44 : goal.returns-then-t-ne44
-returns-then-t-ne44 t c =
+pub returns-then-not-is : goal.returns-then-not-is
+returns-then-not-is t c =
     let h = c.requires.0 in
     let q = c.if-i-eq16.false in
-    rw c.read.ensures (plan_last (omega arith) c.if-c-ne0.false c.bind-b.ensures c.if-b-ne0.false c.next-t.ensures c.if-t-ne44.true)
+    rw c.read.ensures (plan_last (omega arith) c.if-c-ne0.false c.bind-b.ensures c.if-b-ne0.false c.next-t.ensures (fails c.is.ensures c.if-not-is.true))
 
 pub overflow_add-i-2 : goal.overflow_add-i-2
 overflow_add-i-2 t c =
@@ -47,4 +48,5 @@ pub returns : goal.returns
 returns t c =
     let h = c.requires.0 in
     let q = c.if-i-eq16.false in
-    plan_more (omega arith) c.if-c-ne0.false c.bind-b.ensures c.if-b-ne0.false c.next-t.ensures c.if-t-ne44.false c.read-2.ensures c.plan.ensures
+    plan_more (omega arith) c.if-c-ne0.false c.bind-b.ensures c.if-b-ne0.false c.next-t.ensures (c.is.ensures.0 c.if-not-is.false) c.read-2.ensures
+    c.plan.ensures

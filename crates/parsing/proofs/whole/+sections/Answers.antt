@@ -1,33 +1,30 @@
 use mathlib.Core.Path.{refl, sym, ◌∙◌}
 use native.Mathlib.Omega.{arith}
 use lib.ListN.{length-set}
+use Rattle.parsing.specs.Names.{fails}
 use Rattle.parsing.specs.Whole.{sections_on, sections_end, sections_none, sections_full, sections_more, lent_behind}
 use Rattle.parsing.proofs.whole.+sections.Goals as goal
 
 pub returns-then-c-ne0 : goal.returns-then-c-ne0
 returns-then-c-ne0 t c = record { sections = sections_on c.requires.3.few c.if-c-ne0.true; names_len_unchanged = refl }
 
-pub returns-then-t-eq-END : goal.returns-then-t-eq-END
-returns-then-t-eq-END t c = record {
+pub returns-then-is : goal.returns-then-is
+returns-then-is t c = record {
   sections = rw c.read.ensures (sections_end c.requires.3.few c.next-t.ensures c.if-c-ne0.false c.requires.0
-      c.if-t-eq-END.true);
+      (c.is.ensures.0 c.if-is.true));
   names_len_unchanged = refl;
 }
 
-pub is_word-requires : goal.is_word-requires
-is_word-requires t c =
-    (c.next-t.ensures.shape, omega arith)
-
 pub returns-then-not-is_word : goal.returns-then-not-is_word
 returns-then-not-is_word t c = record {
-  sections = rw c.fault.ensures (sections_none c.requires.3.few c.next-t.ensures c.if-c-ne0.false c.if-t-eq-END.false
+  sections = rw c.fault.ensures (sections_none c.requires.3.few c.next-t.ensures c.if-c-ne0.false (fails c.is.ensures c.if-is.false)
       (sym c.is_word.ensures ∙ c.if-not-is_word.true));
   names_len_unchanged = refl;
 }
 
 pub returns-then-i-eq8 : goal.returns-then-i-eq8
 returns-then-i-eq8 t c = record {
-  sections = rw c.fault-then-i-eq8.ensures (sections_full c.requires.3.few c.next-t.ensures c.if-c-ne0.false c.if-i-eq8.true c.if-t-eq-END.false
+  sections = rw c.fault-then-i-eq8.ensures (sections_full c.requires.3.few c.next-t.ensures c.if-c-ne0.false c.if-i-eq8.true (fails c.is.ensures c.if-is.false)
       (sym c.is_word.ensures ∙ c.if-not-is_word.false));
   names_len_unchanged = refl;
 }
@@ -96,7 +93,8 @@ pub returns : goal.returns
 returns t c =
     let h = c.requires.0 in
     let q = c.if-i-eq8.false in record {
-      sections = sections_more c.next-t.ensures c.if-c-ne0.false (omega arith) c.requires.2 c.if-t-eq-END.false (sym c.is_word.ensures ∙ c.if-not-is_word.false)
+      sections = sections_more c.next-t.ensures c.if-c-ne0.false (omega arith) c.requires.2 (fails c.is.ensures c.if-is.false)
+          (sym c.is_word.ensures ∙ c.if-not-is_word.false)
           c.read-2.ensures refl c.section-s.ensures c.sections.ensures.sections;
       names_len_unchanged = c.sections.ensures.names_len_unchanged ∙ c.section-s.ensures.long;
     }

@@ -15,7 +15,7 @@ shape_of-names-then-k-ne0 c =
 
 pub returns-then-k-ne0 : goal.returns-then-k-ne0
 returns-then-k-ne0 c = record {
-  passed = pass_fault c.keyword-word.ensures c.plan-k.ensures c.if-k-ne0.true;
+  passed = pass_fault c.keyword-opened.ensures c.plan-k.ensures c.if-k-ne0.true;
   names_len = (c.plan-k.ensures.long ∙ c.requires.1, c.requires.2, c.requires.3, c.requires.4);
 }
 
@@ -25,7 +25,7 @@ bounds-front-0 c =
 
 pub overflow_cast-front : goal.overflow_cast-front
 overflow_cast-front c =
-    let f = plan_found (record { at = 0; count = 0; found = 0; code = 0; detail = 0 }) refl (start_here c.args.text.now) c.keyword-word.ensures
+    let f = plan_found (record { at = 0; count = 0; found = 0; code = 0; detail = 0 }) refl (start_here c.args.text.now) c.keyword-opened.ensures
     c.plan-k.ensures c.if-k-ne0.false in omega arith
 
 pub bounds-front-1 : goal.bounds-front-1
@@ -38,9 +38,9 @@ bounds-front-2 c =
 
 pub expr-a-requires : goal.expr-a-requires
 expr-a-requires c =
-    let f = plan_found (record { at = 0; count = 0; found = 0; code = 0; detail = 0 }) refl (start_here c.args.text.now) c.keyword-word.ensures
+    let f = plan_found (record { at = 0; count = 0; found = 0; code = 0; detail = 0 }) refl (start_here c.args.text.now) c.keyword-opened.ensures
     c.plan-k.ensures c.if-k-ne0.false in
-    let j = c.symbol-equals.ensures.same ∙ c.keyword-list.ensures.same ∙ c.plan-k.ensures.same_count ∙ c.keyword-word.ensures.same in
+    let j = c.symbol-equals.ensures.same ∙ c.keyword-list.ensures.same ∙ c.plan-k.ensures.same_count ∙ c.keyword-opened.ensures.same in
     record { table_few = c.requires.0; names_long = c.plan-k.ensures.long ∙ c.requires.1; slots_long = c.requires.2; few = omega arith; low = omega arith }
 
 pub sections-requires : goal.sections-requires
@@ -76,7 +76,7 @@ shape_of-fresh c =
 pub returns : goal.returns
 returns c =
     let s = c.sections.ensures.sections in record {
-      passed = pass_parsed c.args.front.now c.keyword-word.ensures c.plan-k.ensures c.if-k-ne0.false c.requires.3 refl c.keyword-list.ensures
+      passed = pass_parsed c.args.front.now c.keyword-opened.ensures c.plan-k.ensures c.if-k-ne0.false c.requires.3 refl c.keyword-list.ensures
           c.symbol-equals.ensures
           c.expr-a.ensures s;
       names_len = (

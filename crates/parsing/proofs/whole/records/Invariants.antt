@@ -1,10 +1,6 @@
 -- `records` meets its contract: n records are written. Assumes nothing.
-use Prim.Native.Nat.{◌-◌}
 use Rattle.parsing.specs.Nodes.{Written}
 use Rattle.parsing.proofs.whole.records.Given as goal
 
 abbrev pub invariant-loop-n : goal.invariant-loop-n
 invariant-loop-n l = Written l.slots l.count l.n l.at l.initial.out l.out l.end
-
-abbrev pub decreases-loop-n : goal.decreases-loop-n
-decreases-loop-n l = l.count - l.n

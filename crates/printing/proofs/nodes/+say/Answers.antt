@@ -26,7 +26,7 @@ add-say-requires t c =
 
 pub add-returns : goal.add-returns
 add-returns t c =
-    add_tells c.requires c.in-Add.is c.decimal-end.ensures c.bytes-end.ensures c.say.ensures
+    add_tells c.requires c.in-Add.is (rw c.from.ensures at c.decimal-end.ensures) c.bytes-end.ensures c.say.ensures
 
 -- BODY
 pub body-bounds-plain-n : goal.body-bounds-plain-n
@@ -265,7 +265,7 @@ say-returns-in-Empty t c =
 
 pub say-returns-in-Number : goal.say-returns-in-Number
 say-returns-in-Number t c =
-    number_tells (sym c.record_at-node.ensures ∙ c.in-Number.is) c.decimal.ensures
+    number_tells (sym c.record_at-node.ensures ∙ c.in-Number.is) (rw c.from.ensures at c.decimal.ensures)
 
 pub say-returns-in-Front : goal.say-returns-in-Front
 say-returns-in-Front t c = c.front.ensures

@@ -1,9 +1,6 @@
 -- `line` meets its contract. Assumes nothing.
-use mathlib.Core.Path.{sym}
-use Rattle.report.specs.Writing.{wrote_then, wrote_text}
-use Rattle.printing.specs.Pieces.{line_few}
+use Rattle.report.specs.Writing.{wrote_then}
 use Rattle.printing.proofs.pieces.line.Goals as goal
 
-pub returns-then-indent-lt32 : goal.returns-then-indent-lt32
-returns-then-indent-lt32 c =
-    wrote_text (wrote_then c.byte-end.ensures c.blanks.ensures) (sym (line_few _ c.if-indent-lt32.true))
+pub returns : goal.returns
+returns c = wrote_then c.byte-end.ensures (rw c.min.ensures at c.blanks.ensures)

@@ -1,36 +1,36 @@
 -- `test` meets its contract. Assumes nothing.
 use mathlib.Core.Path.{sym, ap}
+use native.Mathlib.Omega.{arith}
 use Rattle.report.specs.Writing.{wrote_text}
 use Rattle.printing.specs.Pieces.{test_text, test_many}
 use Rattle.syntax.specs.Printer.{test_name}
 use Rattle.printing.proofs.pieces.test.Goals as goal
 
-pub returns-then-t-eq0 : goal.returns-then-t-eq0
+pub returns-in-0 : goal.returns-in-0
 unfolding test_text test_name
-returns-then-t-eq0 c = wrote_text c.place.ensures (sym (ap test_text c.if-t-eq0.true))
+returns-in-0 c = wrote_text c.place.ensures (sym (ap test_text c.in-0.is))
 
-pub returns-then-t-eq1 : goal.returns-then-t-eq1
+pub returns-in-1 : goal.returns-in-1
 unfolding test_text test_name
-returns-then-t-eq1 c = wrote_text c.bytes.ensures (sym (ap test_text c.if-t-eq1.true))
+returns-in-1 c = wrote_text c.bytes.ensures (sym (ap test_text c.in-1.is))
 
-pub returns-then-t-eq2 : goal.returns-then-t-eq2
+pub returns-in-2 : goal.returns-in-2
 unfolding test_text test_name
-returns-then-t-eq2 c = wrote_text c.bytes-then-t-eq2.ensures (sym (ap test_text c.if-t-eq2.true))
+returns-in-2 c = wrote_text c.bytes-in-2.ensures (sym (ap test_text c.in-2.is))
 
-pub returns-then-t-eq3 : goal.returns-then-t-eq3
+pub returns-in-3 : goal.returns-in-3
 unfolding test_text test_name
-returns-then-t-eq3 c = wrote_text c.bytes-then-t-eq3.ensures (sym (ap test_text c.if-t-eq3.true))
+returns-in-3 c = wrote_text c.bytes-in-3.ensures (sym (ap test_text c.in-3.is))
 
-pub returns-then-t-eq4 : goal.returns-then-t-eq4
+pub returns-in-4 : goal.returns-in-4
 unfolding test_text test_name
-returns-then-t-eq4 c = wrote_text c.bytes-then-t-eq4.ensures (sym (ap test_text c.if-t-eq4.true))
+returns-in-4 c = wrote_text c.bytes-in-4.ensures (sym (ap test_text c.in-4.is))
 
-pub returns-then-t-eq5 : goal.returns-then-t-eq5
+pub returns-in-5 : goal.returns-in-5
 unfolding test_text test_name
-returns-then-t-eq5 c = wrote_text c.bytes-then-t-eq5.ensures (sym (ap test_text c.if-t-eq5.true))
+returns-in-5 c = wrote_text c.bytes-in-5.ensures (sym (ap test_text c.in-5.is))
 
-pub returns : goal.returns
-returns c =
-    wrote_text c.bytes-2.ensures
-    (sym (test_many _ c.if-t-eq0.false c.if-t-eq1.false
-    c.if-t-eq2.false c.if-t-eq3.false c.if-t-eq4.false c.if-t-eq5.false))
+pub returns-in_default : goal.returns-in_default
+returns-in_default c =
+    wrote_text c.bytes-in_default.ensures
+    (sym (test_many _ (λ z. omega arith) (λ z. omega arith) (λ z. omega arith) (λ z. omega arith) (λ z. omega arith) (λ z. omega arith)))

@@ -6,7 +6,6 @@ use Rattle.printing.proofs.plain.plain_nodes.Goals as goal
 pub loop-n-preserved : goal.loop-n-preserved
 loop-n-preserved c =
     let i = c.loop-n.invariant in (
-      omega (arith, i.0),
-      simp length-set i.1,
-      λ sh r. flats_more r (i.2 sh r) (omega arith) i.0 i.1 c.record_at-node.ensures c.plain_node.ensures c.bit.ensures,
+      simp length-set i.0,
+      λ sh r. flats_more r (i.1 sh r) (omega arith) (omega arith) i.0 c.record_at-node.ensures c.plain_node.ensures,
     )

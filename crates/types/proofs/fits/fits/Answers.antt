@@ -9,16 +9,16 @@ pub returns-in-Var : goal.returns-in-Var
 returns-in-Var c sections nodes ts Γ k = fits_var ts _ Γ c.in-Var.is (c.is_typed.ensures Γ _ k.scoped (in_node k.laid k.own c.of_node-t.ensures))
 
 pub returns-in-False : goal.returns-in-False
-returns-in-False c sections nodes ts Γ k = fits_false ts _ Γ c.in-False.is (kind_is (in_node k.laid k.own c.of_node-t.ensures) c.kind_in.ensures)
+returns-in-False c sections nodes ts Γ k = fits_false ts _ Γ c.in-False.is (kind_is _ (in_node k.laid k.own c.of_node-t.ensures) c.is_of.ensures)
 
 pub returns-in-True : goal.returns-in-True
-returns-in-True c sections nodes ts Γ k = fits_true ts _ Γ c.in-True.is (kind_is (in_node k.laid k.own c.of_node-t.ensures) c.kind_in-in-True.ensures)
+returns-in-True c sections nodes ts Γ k = fits_true ts _ Γ c.in-True.is (kind_is _ (in_node k.laid k.own c.of_node-t.ensures) c.is_of-in-True.ensures)
 
 pub returns-in-Empty : goal.returns-in-Empty
-returns-in-Empty c sections nodes ts Γ k = fits_empty ts _ Γ c.in-Empty.is (kind_is (in_node k.laid k.own c.of_node-t.ensures) c.kind_in-in-Empty.ensures)
+returns-in-Empty c sections nodes ts Γ k = fits_empty ts _ Γ c.in-Empty.is (kind_is _ (in_node k.laid k.own c.of_node-t.ensures) c.is_of-in-Empty.ensures)
 
 pub returns-in-Number : goal.returns-in-Number
-returns-in-Number c sections nodes ts Γ k = fits_number ts _ Γ c.in-Number.is (kind_is (in_node k.laid k.own c.of_node-t.ensures) c.kind_in-in-Number.ensures)
+returns-in-Number c sections nodes ts Γ k = fits_number ts _ Γ c.in-Number.is (kind_is _ (in_node k.laid k.own c.of_node-t.ensures) c.is_of-in-Number.ensures)
 
 pub returns-in-Front : goal.returns-in-Front
 returns-in-Front c sections nodes ts Γ k =
@@ -43,7 +43,7 @@ returns-in-TruthCase c = c.fits_truth_case.ensures _ (ap (λ n. (row n).kind) c.
 pub returns-in-Split : goal.returns-in-Split
 returns-in-Split c sections nodes ts Γ k =
     let n = c.in-Split.is in let g = ranged_as k n in
-    fits_split ts _ Γ n (kind_is (in_node k.laid g.0.inside c.of_node-in-Split.ensures) c.kind_in-in-Split.ensures)
+    fits_split ts _ Γ n (kind_is _ (in_node k.laid g.0.inside c.of_node-in-Split.ensures) c.is_of-in-Split.ensures)
     (same_types (in_node k.laid g.1.0.inside c.of_node-in-Split-2.ensures) (in_node k.laid k.own c.of_node-t.ensures)
     c.is_same-in-Split.ensures)
 
@@ -53,11 +53,11 @@ returns-in-Call c = c.fits_call.ensures (ap (λ n. (row n).kind) c.in-Call.is)
 pub returns-in-Add : goal.returns-in-Add
 returns-in-Add c sections nodes ts Γ k =
     let n = c.in-Add.is in let g = ranged_as k n in
-    fits_add ts _ Γ n (kind_is (in_node k.laid k.own c.of_node-t.ensures) c.kind_in-in-Add.ensures)
-    (kind_is (in_node k.laid g.0.inside c.of_node-in-Add.ensures) c.kind_in-in-Add-2.ensures)
+    fits_add ts _ Γ n (kind_is _ (in_node k.laid k.own c.of_node-t.ensures) c.is_of-in-Add.ensures)
+    (kind_is _ (in_node k.laid g.0.inside c.of_node-in-Add.ensures) c.is_of-in-Add-2.ensures)
 
 pub returns-in-Each : goal.returns-in-Each
 returns-in-Each c = c.fits_each.ensures (ap (λ n. (row n).kind) c.in-Each.is)
 
 pub returns-in-Wide : goal.returns-in-Wide
-returns-in-Wide c sections nodes ts Γ k = fits_wide ts _ Γ c.in-Wide.is (kind_is (in_node k.laid k.own c.of_node-t.ensures) c.kind_in-in-Wide.ensures)
+returns-in-Wide c sections nodes ts Γ k = fits_wide ts _ Γ c.in-Wide.is (kind_is _ (in_node k.laid k.own c.of_node-t.ensures) c.is_of-in-Wide.ensures)

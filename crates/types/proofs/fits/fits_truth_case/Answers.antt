@@ -7,6 +7,6 @@ returns c stand q sections nodes ts Γ k =
     let n = c.in-TruthCase.is in
     let g = ranged_as k n in
     let own = in_node k.laid k.own c.of_node-t.ensures in
-    fits_truth ts _ Γ n (kind_is (in_node k.laid g.0.inside c.of_node.ensures) c.kind_in.ensures)
+    fits_truth ts _ Γ n (kind_is _ (in_node k.laid g.0.inside c.of_node.ensures) c.is_of.ensures)
     (same_types (in_node k.laid g.1.0.inside c.of_node-2.ensures) own c.is_same.ensures)
     (same_types (in_node k.laid g.1.1.1.0.inside c.of_node-3.ensures) own c.is_same-2.ensures)

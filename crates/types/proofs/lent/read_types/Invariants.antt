@@ -1,12 +1,7 @@
 -- `read_types` meets its contract: slot after slot. Assumes nothing.
-use Prim.Native.Nat.{◌-◌}
-use Rattle.typing.specs.Numbers.{past_slots}
 use Rattle.types.specs.Slots.{lent_below}
 use Rattle.types.specs.Laying.{Reading}
 use Rattle.types.proofs.lent.read_types.Given as goal
 
 abbrev pub invariant-loop-slot : goal.invariant-loop-slot
 invariant-loop-slot l = Reading l.types (lent_below l.k l.sections l.nodes) l.starts l.at l.slot
-
-abbrev pub decreases-loop-slot : goal.decreases-loop-slot
-decreases-loop-slot l = past_slots - l.slot

@@ -1,30 +1,33 @@
-use mathlib.Core.Logic.{inl, inr}
+use mathlib.Core.Path.{sym, ◌∙◌}
+use Prim.Native.Nat.{◌+◌}
 use native.Mathlib.Omega.{arith}
-use Rattle.types.specs.SlotsLaws.{len_done, len_past, len_long, len_other, owing_less, owing_same, owing_more}
+use Rattle.types.specs.SlotsLaws.{Owing, owing_one, owing_kind, owed_few, len_done, len_unknown, len_end}
 use Rattle.types.proofs.lent.type_len.Goals as goal
+use Rattle.types.proofs.lent.type_len.Goals.{After-owed_behind-owed}
 
-pub returns-then-s-at : goal.returns-then-s-at
-returns-then-s-at c = len_past _ c.loop-owed.invariant c.loop-owed-test.true c.if-s-at.true
+-- WHAT IS KNOWN THERE: a byte more is read
+next : (c : After-owed_behind-owed) → Owing c.args.s.now (c.loop-at.at + 1) c.owed_behind-owed.result
+next c =
+    let w = c.loop-at.invariant in
+    rw c.owed_behind-owed.ensures
+    (owing_kind _ w.0 w.1 c.min.ensures c.loop-at-test.true _ (sym c.kind_of.ensures ∙ c.in_ok-kind_of.was))
 
-pub returns-then-at-ge-LONGEST : goal.returns-then-at-ge-LONGEST
-returns-then-at-ge-LONGEST c = len_long _ c.loop-owed.invariant c.loop-owed-test.true c.if-s-at.false c.if-at-ge-LONGEST.true
+pub loop-at-init : goal.loop-at-init
+loop-at-init c = (owing_one _, omega arith)
 
-pub returns-then-kind-lt-TRUTHS : goal.returns-then-kind-lt-TRUTHS
-returns-then-kind-lt-TRUTHS c = len_other _ c.loop-owed.invariant c.loop-owed-test.true c.if-s-at.false (omega arith) (inl c.if-kind-lt-TRUTHS.true)
+pub returns-in_err-kind_of : goal.returns-in_err-kind_of
+returns-in_err-kind_of c =
+    let w = c.loop-at.invariant in
+    c.from_residual.ensures ∙ len_unknown _ w.0 w.1 c.min.ensures c.loop-at-test.true (sym c.kind_of.ensures ∙ c.in_err-kind_of.was)
 
-pub loop-owed-preserved-then-kind-lt-LISTS : goal.loop-owed-preserved-then-kind-lt-LISTS
-loop-owed-preserved-then-kind-lt-LISTS c = owing_less _ c.loop-owed.invariant c.loop-owed-test.true c.if-s-at.false (omega arith) c.if-kind-lt-TRUTHS.false
-    c.if-kind-lt-LISTS.true
+pub owed_behind-owed-requires : goal.owed_behind-owed-requires
+owed_behind-owed-requires c = let w = c.loop-at.invariant in (w.1, owed_few _ w.0 w.1 c.min.ensures c.loop-at-test.true)
 
-pub loop-owed-preserved-then-kind-eq-LISTS : goal.loop-owed-preserved-then-kind-eq-LISTS
-loop-owed-preserved-then-kind-eq-LISTS c = owing_same _ c.loop-owed.invariant c.loop-owed-test.true c.if-s-at.false (omega arith) c.if-kind-eq-LISTS.true
+pub returns-then-owed-eq0 : goal.returns-then-owed-eq0
+returns-then-owed-eq0 c = len_done _ (next (goal.at.returns-then-owed-eq0 c).After-owed_behind-owed) c.if-owed-eq0.true
 
-pub returns-then-kind-ne-PAIRS : goal.returns-then-kind-ne-PAIRS
-returns-then-kind-ne-PAIRS c = len_other _ c.loop-owed.invariant c.loop-owed-test.true c.if-s-at.false (omega arith)
-    (inr (omega (arith, c.if-kind-ne-PAIRS.true, c.if-kind-eq-LISTS.false, c.if-kind-lt-LISTS.false)))
-
-pub loop-owed-preserved : goal.loop-owed-preserved
-loop-owed-preserved c = owing_more _ c.loop-owed.invariant c.loop-owed-test.true c.if-s-at.false (omega arith) c.if-kind-ne-PAIRS.false
+pub loop-at-preserved : goal.loop-at-preserved
+loop-at-preserved c = (next (goal.at.loop-at-preserved c).After-owed_behind-owed, omega (arith, c.if-owed-eq0.false))
 
 pub returns : goal.returns
-returns c = len_done _ c.loop-owed.invariant c.loop-owed-test.false
+returns c = let w = c.loop-at.invariant in len_end _ w.0 w.1 c.min.ensures c.loop-at-test.false

@@ -1,15 +1,11 @@
 -- `place_children` meets its contract: in each arm the node is the kind that it binds. Assumes nothing.
-use mathlib.Core.Path.{ap}
-use native.Mathlib.Omega.{arith}
-use Rattle.node.specs.Kinds.{children}
-use Rattle.types.specs.Scopes.{child_scopes, subject}
+use Rattle.types.specs.Scopes.{child_scopes}
 use Rattle.types.specs.Placing.{put_1, put_more, as_scope, as_kind, childless_scopes}
 use Rattle.types.proofs.Tags.{childless}
 use Rattle.types.proofs.scopes.place_children.Goals as goal
 
 pub widened-requires : goal.widened-requires
-unfolding subject children
-widened-requires c = (c.requires.0, omega (arith, c.requires.2, ap subject c.in-Split.is))
+widened-requires c = c.requires.0
 
 pub returns-in-Front : goal.returns-in-Front
 unfolding child_scopes
@@ -33,7 +29,7 @@ returns-in-Add c = as_kind _ _ c.in-Add.is (put_1 c.place-in-Add.ensures)
 
 pub returns-in-Each : goal.returns-in-Each
 unfolding child_scopes
-returns-in-Each c = as_kind _ _ c.in-Each.is (put_more c.place-in-Each.ensures (put_1 c.place-in-Each-2.ensures))
+returns-in-Each c = as_kind _ _ c.in-Each.is (put_more c.place-in-Each.ensures (put_1 (as_scope c.place-in-Each-2.ensures c.slots.ensures)))
 
 pub returns-in_default : goal.returns-in_default
 returns-in_default c =

@@ -1,14 +1,10 @@
 -- `place_list_case` meets its contract. Assumes nothing.
-use mathlib.Core.Path.{ap}
-use native.Mathlib.Omega.{arith}
-use Rattle.node.specs.Kinds.{children}
-use Rattle.types.specs.Scopes.{child_scopes, subject}
+use Rattle.types.specs.Scopes.{child_scopes}
 use Rattle.types.specs.Placing.{put_more, put_two, as_scope, as_scopes, as_kind}
 use Rattle.types.proofs.scopes.place_list_case.Goals as goal
 
 pub widened-requires : goal.widened-requires
-unfolding subject children
-widened-requires c = (c.requires.0, omega (arith, c.requires.2, ap subject c.in-ListCase.is))
+widened-requires c = c.requires.0
 
 pub returns : goal.returns
 unfolding child_scopes

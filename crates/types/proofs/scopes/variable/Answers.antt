@@ -1,31 +1,51 @@
+use borrow.Author.Tests.{lt-ltb, le-ltb}
 use native.Mathlib.Omega.{arith}
-use Rattle.types.specs.Scopes.{Around, Climbed, climb_none, climb_start, climb_base, climb_around, climb_up, climb_part}
+use Rattle.types.specs.Scopes.{stands_as, climb_none, climb_start, climb_slot, climb_base, climb_around, climb_less, climb_up, climb_no_parts, climb_part}
 use Rattle.types.proofs.scopes.variable.Goals as goal
-use Rattle.types.proofs.scopes.variable.Goals.{Else-how-lt256}
+use Rattle.types.proofs.scopes.variable.Goals.{then-outer-x-2, else-outer-x-2}
 
-climbed-at-Else-how-lt256 : (c : Else-how-lt256) → Climbed c.args.types.now c.args.starts.now c.args.stand.now c.loop-scope.inner c.args.x c.requires.0
-climbed-at-Else-how-lt256 c = c.loop-scope.invariant c.requires.0 c.requires.1
+pub returns-in_err-view : goal.returns-in_err-view
+returns-in_err-view c Γ r = let t = r.there in let e = c.in_err-view.was in absurd (cc)
 
-around : (c : Else-how-lt256) → Around c.args.types.now c.args.starts.now c.args.stand.now c.loop-scope.inner c.how_of-how.result
-    (climbed-at-Else-how-lt256 c).scope
-around c = climb_around (climbed-at-Else-how-lt256 c) c.how_of-how.ensures c.if-how-lt256.false
+pub returns-then-view-x : goal.returns-then-view-x
+returns-then-view-x c Γ r = climb_none c.if-view-x.true (stands_as r c.in_ok-view.was)
 
-pub returns-then-width_of-x : goal.returns-then-width_of-x
-returns-then-width_of-x c Γ r = climb_none c.width_of.ensures c.if-width_of-x.true r
+pub loop-view-init : goal.loop-view-init
+loop-view-init c Γ r = climb_start c.if-view-x.false (stands_as r c.in_ok-view.was)
 
-pub loop-scope-init : goal.loop-scope-init
-loop-scope-init c Γ r = climb_start c.width_of.ensures c.if-width_of-x.false r
+pub overflow_add-slot : goal.overflow_add-slot
+overflow_add-slot c = let h = climb_slot (c.loop-view.invariant c.requires.1.0 c.requires.1.1) c.in-From.is in omega arith
 
-pub returns-then-how-lt256 : goal.returns-then-how-lt256
-returns-then-how-lt256 c Γ r = climb_base (c.loop-scope.invariant Γ r) c.how_of-how.ensures c.if-how-lt256.true c.type_in.ensures
+pub returns-in-From : goal.returns-in-From
+returns-in-From c Γ r = climb_base (c.loop-view.invariant Γ r) c.in-From.is c.type_in.ensures
 
-pub returns-then-width-x : goal.returns-then-width-x
-returns-then-width-x c Γ r = climb_part (c.loop-scope.invariant Γ r) c.how_of-how.ensures c.if-how-lt256.false c.width_of-width.ensures c.if-width-x.true
-    c.type_in-then-width-x.ensures
-    c.part_of.ensures
+pub bounds-stand-subject : goal.bounds-stand-subject
+bounds-stand-subject c = (climb_around (c.loop-view.invariant c.requires.1.0 c.requires.1.1) c.in-Inside.is).below
 
-pub loop-scope-smaller : goal.loop-scope-smaller
-loop-scope-smaller c = omega (arith, (around (goal.at.loop-scope-smaller c).Else-how-lt256).less)
+pub offset_bounds-stand-subject : goal.offset_bounds-stand-subject
+offset_bounds-stand-subject c =
+    let h = (climb_around (c.loop-view.invariant c.requires.1.0 c.requires.1.1) c.in-Inside.is).below in omega arith
 
-pub loop-scope-preserved : goal.loop-scope-preserved
-loop-scope-preserved c Γ r = climb_up (c.loop-scope.invariant Γ r) c.how_of-how.ensures c.if-how-lt256.false c.width_of-width.ensures c.if-width-x.false
+pub returns-in_err-outer : goal.returns-in_err-outer
+returns-in_err-outer c Γ r =
+    let t = (climb_around (c.loop-view.invariant Γ r) c.in-Inside.is).there in let e = c.in_err-outer.was in absurd (cc)
+
+pub returns-in_err-first : goal.returns-in_err-first
+returns-in_err-first c Γ r =
+    absurd (climb_no_parts (c.loop-view.invariant Γ r) c.in-Inside.is c.in_ok-outer.was c.if-outer-x.true c.type_in-then-outer-x.ensures
+    λ t p q e s d. c.in_err-first.ensures t p q e s d)
+
+pub returns-then-outer-x : goal.returns-then-outer-x
+returns-then-outer-x c Γ r =
+    let y = climb_part (c.loop-view.invariant Γ r) c.in-Inside.is c.in_ok-outer.was c.if-outer-x.true c.type_in-then-outer-x.ensures
+    (λ t p q e s d. c.in_ok-first.ensures t p q e s d) in
+    elim c.if-outer-x-2.branch [
+      | then-outer-x-2 w ↦ rw w.result-is (rw (lt-ltb _ _ w.if-outer-x-2.true) at y)
+      | else-outer-x-2 w ↦ rw w.result-is (rw (le-ltb _ _ w.if-outer-x-2.false) at y)
+    ]
+
+pub loop-view-smaller : goal.loop-view-smaller
+loop-view-smaller c = climb_less (c.loop-view.invariant c.requires.1.0 c.requires.1.1) c.in-Inside.is c.in_ok-outer.was
+
+pub loop-view-preserved : goal.loop-view-preserved
+loop-view-preserved c Γ r = climb_up (c.loop-view.invariant Γ r) c.in-Inside.is c.in_ok-outer.was c.if-outer-x.false

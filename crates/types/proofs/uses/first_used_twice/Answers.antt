@@ -1,15 +1,19 @@
-use native.Mathlib.Omega.{arith}
-use Rattle.types.specs.Uses.{counted_none, sheet_roots, used_none, used_next, used_told}
+use mathlib.Core.Path.{ap, ◌∙◌}
+use Rattle.std.proofs.Common.{arith}
+use Rattle.node.specs.Decoding.{node_at}
+use Rattle.types.specs.Uses.{early, late, place_in, counted_none, sheet_roots, used_none, used_next, used_told}
 use Rattle.types.proofs.uses.first_used_twice.Goals as goal
 
-pub loop-i-init : goal.loop-i-init
-loop-i-init c = (omega arith, λ sh r. used_none r (c.count_roots.ensures _ (sheet_roots r) counted_none))
+pub loop-start-init : goal.loop-start-init
+loop-start-init c sh r = used_none r (c.count_roots.ensures _ (sheet_roots r) counted_none)
 
-pub loop-i-preserved : goal.loop-i-preserved
-loop-i-preserved c = (
-  omega (arith, c.loop-i-test.true),
-  λ sh r. used_next r c.loop-i-test.true c.node_at.ensures (c.count_children.ensures _ (c.loop-i.invariant.1 sh r)),
-)
+pub loop-start-preserved : goal.loop-start-preserved
+loop-start-preserved c sh r =
+    let h = c.loop-start-test.true in
+    used_next r (early c.args.t h) (c.node_at.ensures ∙ ap (node_at c.args.sheet.now) (place_in c.args.t h c.from.ensures))
+    (c.count_children.ensures _ (c.loop-start.invariant sh r))
 
 pub returns : goal.returns
-returns c sh r = used_told r c.loop-i.invariant.0 c.loop-i-test.false (c.loop-i.invariant.1 sh r) c.lowest_of.ensures
+returns c sh r =
+    used_told r (late c.args.t c.loop-start-test.false (omega arith)) c.loop-start.auto.start-index-end (c.loop-start.invariant sh r)
+    c.lowest_of.ensures

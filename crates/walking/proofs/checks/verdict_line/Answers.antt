@@ -13,4 +13,4 @@ returns-in-No c =
 
 pub returns-in-Refused : goal.returns-in-Refused
 returns-in-Refused c =
-    wrote_text c.refusal.ensures (verdict_refused c.in-Refused.is)
+    wrote_text (rw c.from.ensures at c.refusal.ensures) (verdict_refused c.in-Refused.is)

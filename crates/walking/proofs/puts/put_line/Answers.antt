@@ -15,6 +15,6 @@ reply_line-requires c = let w = c.put-put.ensures.put_answered in (reply_within 
 pub returns : goal.returns
 returns c =
     ended_as
-    (put_whole _ _ c.take_fields.ensures c.in-Whole.is c.sheet_of.ensures c.plan_of.ensures
+    (put_whole _ _ c.take_fields.ensures c.in-Some.is c.sheet_of.ensures c.plan_of.ensures
     c.view_of.ensures (omega (arith, c.put-arg-1.given)) (omega (arith, c.put-arg-2-1.given)))
     (ended_put _ c.put-put.ensures.put_answered c.reply_line.ensures)

@@ -10,7 +10,7 @@ use Rattle.walking.proofs.puts.reply_line.Goals as goal
 
 pub returns-in-Refused : goal.returns-in-Refused
 returns-in-Refused c =
-    wrote_text c.refusal.ensures (line_refused (besides c.args.bits c.args.starts c.args.written) c.args.out.now c.in-Refused.is)
+    wrote_text (rw c.from.ensures at c.refusal.ensures) (line_refused (besides c.args.bits c.args.starts c.args.written) c.args.out.now c.in-Refused.is)
 
 pub returns-in-Done : goal.returns-in-Done
 returns-in-Done c =
