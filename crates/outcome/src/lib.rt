@@ -47,7 +47,7 @@ impl Model for Answer {
 
 impl Answer {
     /// A value was got, or a view was put back, in so many steps. Of numbers that do not fit, what fits is kept.
-    #[tactic(auto, unfolding(crate::specs::Outcome::done_as))]
+    #[tactic(auto, using(crate::proofs::Numbers::done_numbered), unfolding(crate::specs::Outcome::done_as))]
     pub fn done(start: usize, len: usize, steps: usize) -> Answer
         ensures { result ≡ done_as start len steps }
     {
@@ -56,6 +56,7 @@ impl Answer {
     }
 
     /// A refusal.
+    #[tactic(auto, using(crate::proofs::Numbers::refused_numbered))]
     pub fn refused(refusal: Refusal) -> Answer
         ensures { result ≡ number_of refusal }
     {
@@ -64,7 +65,7 @@ impl Answer {
     }
 
     /// A refusal for the sake of what the node `first` wrote.
-    #[tactic(auto, unfolding(crate::specs::Outcome::refused_by))]
+    #[tactic(auto, using(crate::proofs::Numbers::by_numbered), unfolding(crate::specs::Outcome::refused_by))]
     pub fn refused_by(refusal: Refusal, first: u8) -> Answer
         ensures { result ≡ refused_by (number_of refusal) first }
     {
@@ -81,6 +82,7 @@ impl Answer {
     }
 
     /// The refusal that it is; `None` for a success.
+    #[tactic(auto, using(crate::proofs::Numbers::read_refusal), unfolding(crate::specs::Outcome::code_of))]
     pub fn refusal(self) -> Option<Refusal>
         ensures { Refuses self result }
     {
@@ -112,6 +114,7 @@ impl Answer {
     }
 
     /// A refusal with one node more in its chain; of a success, one that took no step.
+    #[tactic(auto, using(crate::specs::Outcome::len_small, crate::specs::Outcome::start_small, crate::proofs::Numbers::deeper_numbered), unfolding(crate::specs::Outcome::deeper_as, crate::specs::Outcome::code_of))]
     pub fn deeper(self) -> Answer
         ensures { result ≡ deeper_as self }
     {
@@ -121,6 +124,7 @@ impl Answer {
     }
 
     /// The same answer where `n` steps more were taken before; a refusal is as it was.
+    #[tactic(auto, using(crate::specs::Outcome::steps_small, crate::specs::Outcome::later_refused, crate::specs::Outcome::later_done))]
     pub fn later(self, n: usize) -> Answer
         ensures { result ≡ later_as self n }
     {

@@ -101,6 +101,7 @@ fn open_put(
 }
 
 // A refusal of a get from before the walk.
+#[tactic(auto, unfolding(crate::specs::Call::Explained::refused_get))]
 fn unread(refusal: Refusal) -> GetWalked
     ensures { result ≡ refused_get refusal }
 {
@@ -188,6 +189,7 @@ fn gather(arena: &mut [u8], slots: &[u16; rules::VARIABLES], scope: Scope) -> Ne
 }
 
 // A refusal of a put that was met there, with no start and no bit.
+#[tactic(auto, unfolding(crate::specs::Call::NewStarts::refused_put))]
 fn refused(refusal: Refusal, met: Met) -> PutWalked
     ensures { result ≡ refused_put refusal met }
 {
