@@ -3,8 +3,7 @@ use Rattle.std.specs.Prelude.{◌≡◌, refl, List, ◌++◌, ℕ, min, length,
 use Rattle.std.proofs.Common.{ap, ◌∙◌, arith}
 use Rattle.rules.specs.Numbers.{chain_limit}
 use Rattle.rules.specs.Explain.Calls.{Explanation, success, before, walked, why_get, why_put}
-use Rattle.explaining.specs.declared.Explanation.{Explanation as WhyReply}
-use Rattle.explaining.specs.Explain.{unmet, told_as, why_cleared, WhyAnswered}
+use Rattle.explaining.specs.Explain.{WhyReply, unmet, told_as, why_cleared, WhyAnswered}
 use Rattle.explaining.specs.Explain.Calls.{nodes_long}
 use Rattle.explaining.specs.Explain.Laws.{Proper, firsts_back, why_few, why_get_proper, why_put_proper}
 use Rattle.packing.specs.Numbers.{WhyPacked}
@@ -27,6 +26,10 @@ pub record WhyHanded (e : Explanation) (r : ℕ) (s s' c c' : List ℕ) : Type 0
 -- as many nodes as the depth says, where there is room
 abbrev pub nodes_over : WhyReply → List ℕ → List ℕ
 nodes_over w c = handed (min w.depth (min (length w.chain) (length c))) w.chain c
+
+-- an explanation handed out
+abbrev pub WhyHandedOut : WhyReply → (r : ℕ) → (c c' : List ℕ) → Type 0
+WhyHandedOut w r c c' = WhyPacked w.refusal w.depth w.first r × (c' ≡ nodes_over w c)
 
 told_over : (e : Explanation) → Proper e → (c : List ℕ) → handed (told_as e).depth (told_as e).chain c ≡ chain_over e c
 unfolding told_as unmet chain_over handed

@@ -1,23 +1,48 @@
 //! Get and put for C, with the starts of a put's new plan and the bits of the variables written.
-ghost use Rattle.std.specs.Prelude.{◌≡◌, length};
+ghost use Rattle.std.specs.Prelude.{◌≡◌, ◌≤◌, length};
 ghost use Rattle.rules.specs.Answer.{get_answer, put_answer};
 ghost use Rattle.rules.specs.Bits.{put_written};
 ghost use Rattle.calls.specs.Trips.{Consistent, Acceptable};
 ghost use Rattle.calls.specs.Small.{Small};
 ghost use Rattle.lens.specs.Packing.{unpacked, Packed, ReplyPacked};
-ghost use Rattle.lens.specs.HandedOut.{written_or, PackedPut};
+ghost use Rattle.calls.specs.Reply.{told, put_told};
+ghost use Rattle.lens.specs.HandedOut.{bits_or, written_or, PutHanded, PackedPut};
 
-use calls::{Reply, get, put};
-use packing::{hand, hand_bits};
+use calls::{Done, PutDone, Reply, get, put};
+use packing::hand;
+use refusal::Refusal;
 
 // A reply, and how many starts are told with it.
 fn pack(reply: Reply, count: u8) -> u64
-    requires { Small reply }
-    ensures { ReplyPacked reply count result }
+    requires { Small (told reply) }
+    ensures { ReplyPacked (told reply) count result }
 {
     match reply {
-        Reply::Refused(c) => packing::pack(c, 0, count, 0),
-        Reply::Done { len, steps } => packing::pack(0, len as u16, count, steps as u32),
+        Err(refusal) => packing::pack(refusal.number(), 0, count, 0),
+        Ok(Done { len, steps }) => packing::pack(0, len as u16, count, steps as u32),
+    }
+}
+
+// What a put answers: its reply with how many starts there are, and the starts at the front of the caller's numbers.
+fn hand_put(answer: Result<PutDone, Refusal>, starts: &mut [u16; 16]) -> u64
+    requires { Small (put_told answer).reply × ((put_told answer).starts.count ≤ 16) }
+    ensures { PutHanded (put_told answer) result starts.old starts.new }
+{
+    match answer {
+        Err(refusal) => pack(Err(refusal), 0),
+        Ok(put) => {
+            hand(&put.starts.at, usize::from(put.starts.count), starts);
+            pack(Ok(put.done), put.starts.count)
+        }
+    }
+}
+
+// The bits of a put in the caller's number; behind a refusal it does not change.
+fn hand_bits(answer: Result<PutDone, Refusal>, written: &mut u16)
+    ensures { written.new ≡ bits_or (put_told answer) written.old }
+{
+    if let Ok(put) = answer {
+        *written = put.written;
     }
 }
 
@@ -51,9 +76,10 @@ pub extern "C" fn lens_put(
         (length scratch.old)) result out.old out.new scratch.old scratch.new }
     ensures consistent { Consistent sheet.now view.now allowance (unpacked result) out.new }
 {
-    let answer = put(sheet, plan, view, allowance, out, scratch);
-    let reply = answer.reply;
-    pack(reply, 0)
+    match put(sheet, plan, view, allowance, out, scratch) {
+        Err(refusal) => pack(Err(refusal), 0),
+        Ok(put) => pack(Ok(put.done), 0),
+    }
 }
 
 /// `put` for C that also gives the starts of the new plan, at the front of `starts`, and how many there are in its answer.
@@ -72,11 +98,7 @@ pub extern "C" fn lens_put_starts(
         starts.old starts.new }
     ensures consistent { Consistent sheet.now view.now allowance (unpacked result) out.new }
 {
-    let answer = put(sheet, plan, view, allowance, out, scratch);
-    let reply = answer.reply;
-    let given = answer.starts;
-    hand(&given.at, usize::from(given.count), starts);
-    pack(reply, given.count)
+    hand_put(put(sheet, plan, view, allowance, out, scratch), starts)
 }
 
 /// `put` for C that gives the starts of the new plan, as `lens_put_starts` does, and which plan variables took a view, in `written`.
@@ -100,10 +122,6 @@ pub extern "C" fn lens_put_written(
         written.old }
 {
     let answer = put(sheet, plan, view, allowance, out, scratch);
-    let reply = answer.reply;
-    let given = answer.starts;
-    hand(&given.at, usize::from(given.count), starts);
-    let packed = pack(reply, given.count);
-    hand_bits(packed, answer.written, written);
-    packed
+    hand_bits(answer, written);
+    hand_put(answer, starts)
 }

@@ -3,7 +3,6 @@ ghost use Rattle.typing.specs.Check.{check};
 ghost use Rattle.lens.specs.Tools.{CheckPacked};
 
 use packing::pack_told;
-use types::Checked;
 
 /// `types::check` for C.
 #[unsafe(no_mangle)]
@@ -11,8 +10,10 @@ pub extern "C" fn lens_check_types(sheet: &[u8], types: &[u8]) -> u64
     ensures { CheckPacked (check sheet.now types.now) result }
 {
     match types::check(sheet, types) {
-        Checked::Passes => pack_told(0, 0),
-        Checked::Refused(c) => pack_told(c, 0),
-        Checked::At { refusal, node } => pack_told(refusal, node as u16),
+        Ok(()) => pack_told(0, 0),
+        Err(misfit) => match misfit.node {
+            None => pack_told(misfit.refusal.number(), 0),
+            Some(node) => pack_told(misfit.refusal.number(), node as u16),
+        },
     }
 }

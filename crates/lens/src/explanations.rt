@@ -1,18 +1,23 @@
 //! Why a get or a put is refused, for C.
-ghost use Rattle.std.specs.Prelude.{◌≡◌, length};
+ghost use Rattle.std.specs.Prelude.{length};
 ghost use Rattle.rules.specs.Explain.Calls.{why_get, why_put};
-ghost use Rattle.packing.specs.Numbers.{WhyPacked};
-ghost use Rattle.lens.specs.Explanations.{nodes_over, WhyHanded};
+ghost use Rattle.explaining.specs.Explain.{why_reply};
+ghost use Rattle.lens.specs.Explanations.{WhyHandedOut, WhyHanded};
 
-use explaining::{Explanation, why_get, why_put};
+use explaining::{Why, why_get, why_put};
 use packing::{hand, pack_why};
 
 // An explanation: in one number, and its nodes at the front of the caller's bytes.
-fn hand_why(why: Explanation, chain: &mut [u8]) -> u64
-    ensures { WhyPacked why.refusal why.depth why.first result × (chain.new ≡ nodes_over why chain.old) }
+fn hand_why(why: Option<Why>, chain: &mut [u8]) -> u64
+    ensures { WhyHandedOut (why_reply why) result chain.old chain.new }
 {
-    hand(&why.chain, usize::from(why.depth), chain);
-    pack_why(why.refusal, why.depth, why.first)
+    match why {
+        None => pack_why(0, 0, 0),
+        Some(why) => {
+            hand(&why.chain, usize::from(why.depth), chain);
+            pack_why(why.refusal.number(), why.depth, why.first)
+        }
+    }
 }
 
 /// `why_get` for C: the nodes of the chain at the front of `chain`; no other byte of it is written, and none where there is no chain.

@@ -4,6 +4,7 @@ ghost use Rattle.packing.specs.HandedOut.{Lookup};
 ghost use Rattle.starts.specs.Starts.{load_of, find_of};
 
 use packing::{hand, hand_found, pack};
+use refusal::Refusal;
 use starts::Starts;
 
 /// `starts::load` for C: the starts at the front of `starts`, and how many there are in the answer.
@@ -11,10 +12,13 @@ use starts::Starts;
 pub extern "C" fn lens_load(sheet: &[u8], plan: &[u8], starts: &mut [u16; 16]) -> u64
     ensures { PackedLoad (load_of sheet.now plan.now) result starts.old starts.new }
 {
-    let loaded = starts::load(sheet, plan);
-    let given = loaded.starts;
-    hand(&given.at, usize::from(given.count), starts);
-    pack(loaded.refusal, 0, given.count, 0)
+    match starts::load(sheet, plan) {
+        Err(refusal) => pack(refusal.number(), 0, 0, 0),
+        Ok(given) => {
+            hand(&given.at, usize::from(given.count), starts);
+            pack(0, 0, given.count, 0)
+        }
+    }
 }
 
 /// `starts::find` for C: 0, and where the value starts and ends; or a refusal's number, and both numbers stay what they were.
@@ -31,7 +35,7 @@ pub extern "C" fn lens_find(
         end.old end.new }
 {
     if 16 < count {
-        return 24;
+        return Refusal::Starts.number();
     }
     let kept = Starts {
         count: count as u8,

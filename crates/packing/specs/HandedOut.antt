@@ -1,8 +1,8 @@
 -- What is handed out in numbers and bytes that the caller lends.
 use Rattle.std.specs.Prelude.{◌≡◌, refl, List, [], ◌∷◌, ◌++◌, ℕ, zero, suc, ◌≤◌, length, take, drop}
 use Rattle.std.proofs.Common.{sym, ap, arith}
-use Rattle.starts.specs.declared.Found.{Found}
-use Rattle.starts.specs.declared.Found.TheVariants.{At, Refused}
+use Rattle.value.specs.Result.{Result, ok, refusal}
+use Rattle.starts.specs.declared.Place.{Place}
 use Rattle.starts.specs.Starts.{firsts}
 
 -- the first n of the numbers l at the front of the caller's t; those behind them do not change
@@ -14,19 +14,19 @@ abbrev pub handed_over : {A : Type 0} → ℕ → (l t : List A) → List A
 handed_over n l t = take n l ++ drop n t
 
 -- a lookup found f: 0 and where the value starts and ends; or the refusal's number, and both numbers are what they were
-unfoldable pub found_number : Found → ℕ
-found_number (At start end) = 0
-found_number (Refused c) = c
+unfoldable pub found_number : Result Place → ℕ
+found_number (ok p) = 0
+found_number (refusal c) = c
 
-unfoldable pub start_or : Found → ℕ → ℕ
-start_or (At start end) old = start
-start_or (Refused c) old = old
+unfoldable pub start_or : Result Place → ℕ → ℕ
+start_or (ok p) old = p.start
+start_or (refusal c) old = old
 
-unfoldable pub end_or : Found → ℕ → ℕ
-end_or (At start end) old = end
-end_or (Refused c) old = old
+unfoldable pub end_or : Result Place → ℕ → ℕ
+end_or (ok p) old = p.end
+end_or (refusal c) old = old
 
-pub record Lookup (f : Found) (r start start' end end' : ℕ) : Type 0 where
+pub record Lookup (f : Result Place) (r start start' end end' : ℕ) : Type 0 where
   pub number : r ≡ found_number f
   pub starts_at : start' ≡ start_or f start
   pub ends_at : end' ≡ end_or f end
@@ -44,10 +44,10 @@ unfolding handed
 handed_front n l t h = ap (λ (m : List ℕ). m ++ drop n t) (sym (firsts_are n l h))
 
 -- the returns of a lookup
-pub found_at : {f : Found} {a b : ℕ} → f ≡ At a b → (start end : ℕ) → Lookup f 0 start a end b
+pub found_at : (p : Place) (start end : ℕ) → Lookup (ok p) 0 start p.start end p.end
 unfolding found_number start_or end_or
-found_at e start end = rw e (record { number = refl; starts_at = refl; ends_at = refl })
+found_at p start end = record { number = refl; starts_at = refl; ends_at = refl }
 
-pub found_none : {f : Found} {c : ℕ} → f ≡ Refused c → (start end : ℕ) → Lookup f c start start end end
+pub found_none : (c start end : ℕ) → Lookup (refusal c) c start start end end
 unfolding found_number start_or end_or
-found_none e start end = rw e (record { number = refl; starts_at = refl; ends_at = refl })
+found_none c start end = record { number = refl; starts_at = refl; ends_at = refl }

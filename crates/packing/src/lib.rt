@@ -4,5 +4,5 @@
 mod handing;
 mod numbers;
 
-pub use handing::{hand, hand_bits, hand_found};
+pub use handing::{hand, hand_found};
 pub use numbers::{low, pack, pack_told, pack_why};

@@ -1,12 +1,13 @@
 -- What the answers of tools tell in one number, and the place of a fault in a number that the caller lends.
 use Rattle.std.specs.Prelude.{◌≡◌, ℕ}
 use Rattle.std.proofs.Math.Path.{refl}
-use Rattle.made.specs.declared.Made.{Made}
-use Rattle.made.specs.Made.{code_of as made_code, length_of}
-use Rattle.numbering.specs.declared.Numbered.{Numbered}
-use Rattle.numbering.specs.Replies.{code_of, value_of}
-use Rattle.accepts.specs.declared.Verdict.{Verdict}
-use Rattle.accepts.specs.declared.Verdict.TheVariants.{Yes, No}
+use Rattle.std.specs.Prelude.{Bool, true, false, Ok, Err}
+use Rattle.refusal.specs.declared.Refusal.{Refusal}
+use Rattle.refusal.specs.Refusal.{number_of}
+use Rattle.value.specs.Result.{Result, ok, refusal}
+use Rattle.made.specs.Made.{Made, code_of as made_code, length_of}
+use Rattle.numbering.specs.Replies.{Reply, code_of, value_of}
+use Rattle.numbering.specs.Replies as Reply
 use Rattle.accepts.specs.Accepts.{code_of as verdict_code, yes_of}
 use Rattle.parsing.specs.declared.Reading.{Reading}
 use Rattle.parsing.specs.declared.Reading.TheVariants.{Done, Refused, At}
@@ -17,11 +18,11 @@ abbrev pub MadeTold : Made → ℕ → Type 0
 MadeTold q r = Tells (made_code q) (low (length_of q)) r
 
 -- what was replied about a sheet: the length, or the node of 81
-abbrev pub NumberTold : Numbered → ℕ → Type 0
+abbrev pub NumberTold : Reply → ℕ → Type 0
 NumberTold q r = Tells (code_of q) (low (value_of q)) r
 
 -- a verdict: 1 for yes
-abbrev pub VerdictTold : Verdict → ℕ → Type 0
+abbrev pub VerdictTold : Result Bool → ℕ → Type 0
 VerdictTold v r = Tells (verdict_code v) (yes_of v) r
 
 -- READING A TEXT
@@ -51,50 +52,48 @@ pub record ReadTold (q : Reading) (r place place' : ℕ) : Type 0 where
 
 -- WHAT SHOWS IT, case by case
 
-module _ {q : Made} {r : ℕ} where
-  pub made_done : {n m : ℕ} → q ≡ Made.Done n → m ≡ low n → Tells 0 m r → MadeTold q r
+module _ {r : ℕ} where
+  pub made_done : (n : ℕ) {m : ℕ} → m ≡ low n → Tells 0 m r → MadeTold (Ok n) r
   unfolding made_code length_of
-  made_done e f t = rw e (rw f at t)
+  made_done n f t = rw f at t
 
-  pub made_refused : {c : ℕ} → q ≡ Made.Refused c → Tells c 0 r → MadeTold q r
+  pub made_refused : (e : Refusal) → Tells (number_of e) 0 r → MadeTold (Err e) r
   unfolding made_code length_of
-  made_refused e t = rw e t
+  made_refused e t = t
 
-module _ {q : Numbered} {r : ℕ} where
-  pub numbered_done : {n m : ℕ} → q ≡ Numbered.Done n → m ≡ low n → Tells 0 m r → NumberTold q r
+  pub numbered_done : (n : ℕ) {m : ℕ} → m ≡ low n → Tells 0 m r → NumberTold (Reply.Done n) r
   unfolding code_of value_of
-  numbered_done e f t = rw e (rw f at t)
+  numbered_done n f t = rw f at t
 
-  pub numbered_refused : {c : ℕ} → q ≡ Numbered.Refused c → Tells c 0 r → NumberTold q r
+  pub numbered_refused : (c : ℕ) → Tells c 0 r → NumberTold (Reply.Refused c) r
   unfolding code_of value_of
-  numbered_refused e t = rw e t
+  numbered_refused c t = t
 
-  pub numbered_twice : {n m : ℕ} → q ≡ Numbered.Twice n → m ≡ low n → Tells 81 m r → NumberTold q r
+  pub numbered_twice : (n : ℕ) {m : ℕ} → m ≡ low n → Tells 81 m r → NumberTold (Reply.Twice n) r
   unfolding code_of value_of
-  numbered_twice e f t = rw e (rw f at t)
+  numbered_twice n f t = rw f at t
 
-module _ {v : Verdict} {r : ℕ} where
-  pub told_yes : v ≡ Yes → Tells 0 1 r → VerdictTold v r
+  pub told_yes : Tells 0 1 r → VerdictTold (ok true) r
   unfolding verdict_code yes_of
-  told_yes e t = rw e t
+  told_yes t = t
 
-  pub told_no : v ≡ No → Tells 0 0 r → VerdictTold v r
+  pub told_no : Tells 0 0 r → VerdictTold (ok false) r
   unfolding verdict_code yes_of
-  told_no e t = rw e t
+  told_no t = t
 
-  pub told_refused : {c : ℕ} → v ≡ Verdict.Refused c → Tells c 0 r → VerdictTold v r
+  pub told_refused : (c : ℕ) → Tells c 0 r → VerdictTold (refusal c) r
   unfolding verdict_code yes_of
-  told_refused e t = rw e t
+  told_refused c t = t
 
-module _ {q : Reading} (old : ℕ) {r : ℕ} where
-  pub read_done : {n m : ℕ} → q ≡ Done n → m ≡ low n → Tells 0 m r → ReadTold q r old old
+module _ (old : ℕ) {r : ℕ} where
+  pub read_done : (n : ℕ) {m : ℕ} → m ≡ low n → Tells 0 m r → ReadTold (Done n) r old old
   unfolding read_number read_bits place_or
-  read_done e f t = rw e record { answer = rw f at t; placed = refl }
+  read_done n f t = record { answer = rw f at t; placed = refl }
 
-  pub read_refused : {c : ℕ} → q ≡ Refused c → Tells c 0 r → ReadTold q r old old
+  pub read_refused : (c : ℕ) → Tells c 0 r → ReadTold (Refused c) r old old
   unfolding read_number read_bits place_or
-  read_refused e t = rw e record { answer = t; placed = refl }
+  read_refused c t = record { answer = t; placed = refl }
 
-  pub read_fault : {c p d : ℕ} → q ≡ At c p d → Tells c d r → ReadTold q r old p
+  pub read_fault : (c p d : ℕ) → Tells c d r → ReadTold (At c p d) r old p
   unfolding read_number read_bits place_or
-  read_fault e t = rw e record { answer = t; placed = refl }
+  read_fault c p d t = record { answer = t; placed = refl }

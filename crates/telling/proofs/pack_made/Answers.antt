@@ -2,8 +2,8 @@
 use Rattle.telling.specs.Tools.{made_done, made_refused}
 use Rattle.telling.proofs.pack_made.Goals as goal
 
-pub returns-in-Done : goal.returns-in-Done
-returns-in-Done c = made_done c.in-Done.is c.low.ensures c.pack_told.ensures
+pub returns-in-Ok : goal.returns-in-Ok
+returns-in-Ok c = rw c.in-Ok.is (made_done _ c.low.ensures c.pack_told.ensures)
 
-pub returns-in-Refused : goal.returns-in-Refused
-returns-in-Refused c = made_refused c.in-Refused.is c.pack_told-in-Refused.ensures
+pub returns-in-Err : goal.returns-in-Err
+returns-in-Err c = rw c.in-Err.is (made_refused _ (rw c.number.ensures at c.pack_told-in-Err.ensures))

@@ -2,10 +2,8 @@
 use Rattle.lens.specs.Tools.{growth_times, growth_refused}
 use Rattle.lens.proofs.growths.lens_growth.Goals as goal
 
-pub returns-in-Times : goal.returns-in-Times
-returns-in-Times c =
-    growth_times _ c.growth.ensures c.in-Times.is c.pack_told.ensures
+pub returns-in-Ok : goal.returns-in-Ok
+returns-in-Ok c = growth_times c.in-Ok.ensures c.pack_told.ensures
 
-pub returns-in-Refused : goal.returns-in-Refused
-returns-in-Refused c =
-    growth_refused _ c.growth.ensures c.in-Refused.is c.pack_told-in-Refused.ensures
+pub returns-in-Err : goal.returns-in-Err
+returns-in-Err c = growth_refused c.in-Err.ensures (rw c.number.ensures at c.pack_told-in-Err.ensures)

@@ -5,4 +5,4 @@ use Rattle.packing.specs.HandedOut.{found_none}
 use Rattle.lens.proofs.lookups.lens_find.Goals as goal
 
 pub returns-then-count-gt16 : goal.returns-then-count-gt16
-returns-then-count-gt16 c = found_none (sym (find_24 _ _ _ (sym (too_many _ _ c.if-count-gt16.true)))) _ _
+returns-then-count-gt16 c = rw (c.number.ensures, ← find_24 _ _ _ (sym (too_many _ _ c.if-count-gt16.true))) (found_none _ _ _)

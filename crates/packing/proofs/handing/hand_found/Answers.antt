@@ -2,8 +2,8 @@
 use Rattle.packing.specs.HandedOut.{found_at, found_none}
 use Rattle.packing.proofs.handing.hand_found.Goals as goal
 
-pub returns-in-Refused : goal.returns-in-Refused
-returns-in-Refused c = found_none c.in-Refused.is _ _
+pub returns-in-Err : goal.returns-in-Err
+returns-in-Err c = rw (c.in-Err.is, c.number.ensures) (found_none _ _ _)
 
-pub returns-in-At : goal.returns-in-At
-returns-in-At c = found_at c.in-At.is _ _
+pub returns-in-Ok : goal.returns-in-Ok
+returns-in-Ok c = rw c.in-Ok.is (found_at _ _ _)
