@@ -29,8 +29,9 @@ use Rattle.rules.specs.Answer.{get_walk, get_bytes}
 use Rattle.rules.specs.Laws.Answers.{DoorOpens}
 use Rattle.rules.proofs.Laws.Answers.{door-scratch, door_none, door_over}
 use Rattle.rules.proofs.Laws.Refusals.{Lists, l_done, l_refused, listed_above, lists_get_bytes, lists_put_bytes}
-use Rattle.walk.specs.Reply.{Reply, Done as ReplyDone, Refused as ReplyRefused}
-use Rattle.walk.specs.Call.{Says, says_done, says_refused, Free, get_sheet-refused, get_plan-refused}
+use Rattle.calls.specs.Reply.{Reply, Done as ReplyDone, Refused as ReplyRefused}
+use Rattle.walk.specs.Call.{Free, get_sheet-refused, get_plan-refused}
+use Rattle.calls.specs.WalkCalls.{Says, says_done, says_refused}
 use Rattle.walk.specs.Call.Put.{put_view-refused}
 use Rattle.calls.specs.Calls.{after_refusal}
 use Rattle.arena.specs.Door.{shut, shut_is, shut_open}

@@ -15,11 +15,11 @@ ghost use Rattle.accepts.specs.Calls.{Built, listed_of};
 ghost use Rattle.accepts.specs.Kept.{Within, span_of, Plans, KeptAs};
 ghost use Rattle.accepts.specs.Marks.{Readied, marked_one, marked_all, Marks};
 
+use calls::{Done, Reply};
 use node::Node;
 use refusal::Refusal;
 use sheet::Table;
 use value::Spans;
-use walk::{Done, Reply};
 
 // Marks variable x, where it is one of a plan's.
 #[tactic(auto, using(crate::specs::Marks::one_marked, crate::specs::Marks::none_marked))]

@@ -1,7 +1,7 @@
 -- What shows that a call was answered: refused at the door, refused behind it, or done.
 use Rattle.std.specs.Prelude.{◌≡◌, List, ◌++◌, ℕ, ◌≤◌, ◌<◌, length, take}
 use Rattle.std.proofs.Math.Path.{refl, ap}
-use Rattle.std.proofs.Common.{◌∙◌, zero-add, arith, length-append}
+use Rattle.std.proofs.Common.{sym, ◌∙◌, zero-add, arith, length-append}
 use Rattle.std.proofs.Math.Bool.{false}
 use borrow.Author.Tests.{lt-leb}
 use Rattle.std.proofs.Math.Dec.{leb}
@@ -9,7 +9,7 @@ use Rattle.std.proofs.Math.ListN.{drop}
 use Rattle.std.proofs.Math.Seq.{paste}
 use Rattle.std.specs.Prelude.{Result as Code, Ok, Err}
 use Rattle.refusal.specs.declared.Refusal.{Refusal}
-use Rattle.value.specs.Numbered.{numbered}
+use Rattle.refusal.specs.Refusal.{number_of}
 use Rattle.rules.specs.Outcome.{Out, done, refused}
 use Rattle.rules.specs.Answer.{Answer, refusal, success, answer, door}
 use Rattle.rules.specs.Laws.Answers.{DoorOpens}
@@ -17,7 +17,7 @@ use Rattle.rules.proofs.Laws.Answers.{door_open}
 use Rattle.rules.proofs.Laws.Refusals.{Lists, l_refused, listed_above}
 use Rattle.calls.specs.Reply.{Reply, Done, Refused}
 use Rattle.buffers.specs.Buffers.{zeros, zeroed}
-use Rattle.arena.specs.Door.{shut, opening, opens_lent, Door, opens, shuts, door_cases}
+use Rattle.arena.specs.Door.{shut, Judges, door_opens, door_stays, past_output, Door, opens, shuts, door_cases}
 use Rattle.calls.specs.Calls.{reply, written, cleared, after_refusal, Answered}
 
 -- scratch that was only changed within its first n bytes is cleared to the same bytes
@@ -27,11 +27,22 @@ zeros_same n s a e = rw e
 
 -- THE DOOR
 
--- where the code's answer is no refusal, all is lent
-pub lent_else : {need output scratch allowance : ℕ} {r : Code Unit Refusal} → numbered r ≡ opening need output scratch allowance
+-- a refusal of the code's is what shut says
+pub refused_shut : (need output scratch allowance : ℕ) (x : Refusal) → number_of x ≡ shut need output scratch allowance
+    → (number_of x ≡ shut need output scratch allowance) × (number_of x ≡ 0 → ⊥)
+refused_shut need output scratch allowance x e = (e, λ z. door_stays x e (door_opens (sym e ∙ z)))
+
+-- where its answer is no refusal, all is lent
+pub lent_else : {need output scratch allowance : ℕ} (r : Code Unit Refusal) → Judges need output scratch allowance r
     → ((e : Refusal) → r ≡ Err e → ⊥) → DoorOpens need output scratch allowance
-lent_else {r = Ok x} e n = opens_lent e
-lent_else {r = Err x} e n = absurd (n x refl)
+lent_else (Ok x) e n = door_opens e
+lent_else (Err x) e n = absurd (n x refl)
+
+-- where the output will do, the door of a call is that of the walk
+pub judges_past : {need output : ℕ} → need ≤ output → (scratch allowance : ℕ) (r : Code Unit Refusal) → Judges 0 0 scratch allowance r
+    → Judges need output scratch allowance r
+judges_past h scratch allowance (Ok x) e = sym (past_output h scratch allowance) ∙ e
+judges_past h scratch allowance (Err x) e = e ∙ past_output h scratch allowance
 
 module _ (need : ℕ) (o s : List ℕ) (allowance : ℕ) (w : Out (List ℕ)) where
   abbrev Call : Answer

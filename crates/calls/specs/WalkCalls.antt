@@ -11,8 +11,11 @@ use Rattle.rules.specs.Laws.Answers.{DoorOpens}
 use Rattle.rules.proofs.Laws.Answers.{door_open}
 use Rattle.rules.proofs.Laws.Refusals.{Lists, lists_get_bytes, lists_put_bytes}
 use Rattle.starts.specs.Starts.{no_starts, load_of, starts_in}
-use Rattle.walk.specs.Call.{Says, says_done, says_refused, WalkCall}
-use Rattle.calls.specs.Reply.{Reply, Done, Refused}
+use Rattle.std.specs.Prelude.{Ok, Err}
+use Rattle.walk.specs.Reply.{Reply as WalkReply}
+use Rattle.walk.specs.Call
+use Rattle.walk.specs.Call.{WalkCall}
+use Rattle.calls.specs.Reply.{Reply, Done, Refused, told}
 use Rattle.buffers.specs.Buffers.{zeroed}
 use Rattle.arena.specs.Door.{shut}
 use Rattle.walk.specs.Call.NewStarts.{new_starts as walk_new_starts}
@@ -20,6 +23,15 @@ use Rattle.walk.specs.Call.Bits.{new_written as walk_new_written}
 use Rattle.calls.specs.Calls.{reply, Answered, new_starts, new_written}
 use Rattle.calls.specs.Output.{HasRoom, output_of}
 use Rattle.calls.specs.CallLaws.{zeros_same, shut_call, refused_behind, done_behind, at_front}
+
+-- what a walk says, in numbers: the bytes of its outcome, at most `most`, stand at 32,256 of the arena a
+pub data Says (most : ℕ) (a : List ℕ) (r : Reply) : Out (List ℕ) → Type 0 where
+  says_done : {bs : List ℕ} {n : ℕ} (len : ℕ) → r ≡ Done len n → len ≡ length bs → len ≤ most → take len (drop stack_start a) ≡ bs → Says most a r (done bs n)
+  says_refused : {c n : ℕ} → r ≡ Refused c → Says most a r (refused c n)
+
+pub told_says : {most : ℕ} {a : List ℕ} {r : WalkReply} {o : Out (List ℕ)} → Call.Says most a r o → Says most a (told r) o
+told_says (Call.says_done len e l h p) = says_done len (ap told e) l h p
+told_says (Call.says_refused e f) = says_refused (ap told e ∙ ap Refused f)
 
 -- what a walk that is done says
 pub record SaysDone (most : ℕ) (a : List ℕ) (len n : ℕ) (o : Out (List ℕ)) : Type 0 where
@@ -77,14 +89,14 @@ module _ {need : ℕ} {w : Out (List ℕ)} {allowance : ℕ} {o s : List ℕ} {x
   pub call_shut : {c : ℕ} → c ≡ shut need (length o) (length s) allowance → (c ≡ 0 → ⊥) → Answered x (Refused c) o o s s
   call_shut e n = rw b.is (shut_call need o s allowance w e n)
 
-  module _ (l : DoorOpens need (length o) (length s) allowance) {U : Type 0} {a : List ℕ} {r : Reply} (g : WalkCall U need w allowance s a r) where
-    says : Says need a r w
-    says = g.says (inside l)
+  module _ (l : DoorOpens need (length o) (length s) allowance) {U : Type 0} {a : List ℕ} {r : WalkReply} (g : WalkCall U need w allowance s a r) where
+    says : Says need a (told r) w
+    says = told_says (g.says (inside l))
 
-    call_refused : {c : ℕ} {s' : List ℕ} → r ≡ Refused c → s' ≡ zeroed a → Answered x (Refused c) o o s s'
+    call_refused : {c : ℕ} {s' : List ℕ} → told r ≡ Refused c → s' ≡ zeroed a → Answered x (Refused c) o o s s'
     call_refused e z = rw b.is (refused_behind need o s allowance w l b.listed (said_refused says e).1 (z ∙ zeros_same scratch_size s a g.free.behind))
 
-    call_done : {len n : ℕ} {o' s' : List ℕ} → r ≡ Done len n → o' ≡ paste o 0 (drop stack_start a) len → s' ≡ zeroed a
+    call_done : {len n : ℕ} {o' s' : List ℕ} → told r ≡ Done len n → o' ≡ paste o 0 (drop stack_start a) len → s' ≡ zeroed a
         → Answered x (Done len n) o o' s s'
     call_done {len} e p z =
         let d = said_done says e in
@@ -92,20 +104,20 @@ module _ {need : ℕ} {w : Out (List ℕ)} {allowance : ℕ} {o s : List ℕ} {x
         rw b.is (done_behind need o s allowance w l d.is d.long q (z ∙ zeros_same scratch_size s a g.free.behind))
 
     -- what the walk's answer asks of the buffers, and what becomes of it
-    pub call_fits : (scratch_size ≤ length a) × HasRoom r o a
-    call_fits = (omega (arith, g.free.long, l.scratch_long), go r refl)
+    pub call_fits : (scratch_size ≤ length a) × HasRoom (told r) o a
+    call_fits = (omega (arith, g.free.long, l.scratch_long), go (told r) refl)
       where
-        go : (t : Reply) → r ≡ t → HasRoom t o a
+        go : (t : Reply) → told r ≡ t → HasRoom t o a
         go (Refused c) e = tt
         go (Done len n) e =
             let d = said_done says e in
             (omega (arith, d.short, b.small, g.free.long, l.scratch_long), omega (arith, d.short, l.output_long))
 
-    pub call_told : {q : Reply} {o' s' : List ℕ} → q ≡ r → o' ≡ output_of r o a → s' ≡ zeroed a → Answered x q o o' s s'
+    pub call_told : {q : Reply} {o' s' : List ℕ} → q ≡ told r → o' ≡ output_of (told r) o a → s' ≡ zeroed a → Answered x q o o' s s'
     unfolding output_of
-    call_told {q} {o'} {s'} e p z = go r refl
+    call_told {q} {o'} {s'} e p z = go (told r) refl
       where
-        go : (t : Reply) → r ≡ t → Answered x q o o' s s'
+        go : (t : Reply) → told r ≡ t → Answered x q o o' s s'
         go (Refused c) h = rw (e ∙ h, p ∙ ap (λ (t : Reply). output_of t o a) h) (call_refused h z)
         go (Done len n) h = rw (e ∙ h) (call_done h (p ∙ ap (λ (t : Reply). output_of t o a) h) z)
 
@@ -114,10 +126,10 @@ module _ {need : ℕ} {w : Out (List ℕ)} {allowance : ℕ} {o s : List ℕ} {x
     unfolding answer new_starts walk_new_starts
     call_starts sheet = go r refl
       where
-        go : (t : Reply) → r ≡ t → walk_new_starts sheet a r ≡ new_starts sheet x
-        go (Refused c) h = rw (h, b.is, door_open {o = w} l, (said_refused says h).1)
-        go (Done len n) h =
-            let d = said_done says h in
+        go : (t : WalkReply) → r ≡ t → walk_new_starts sheet a r ≡ new_starts sheet x
+        go (Err e) h = rw (h, b.is, door_open {o = w} l, (said_refused says (ap told h)).1)
+        go (Ok y) h =
+            let d = said_done says (ap told h) in
             rw (h, b.is, door_open {o = w} l, d.is) (ap (λ (new : List ℕ). starts_in (load_of sheet new)) d.stands)
 
     -- and so are the bits
@@ -125,6 +137,6 @@ module _ {need : ℕ} {w : Out (List ℕ)} {allowance : ℕ} {o s : List ℕ} {x
     unfolding answer new_written walk_new_written
     call_written sheet plan view k = go r refl
       where
-        go : (t : Reply) → r ≡ t → walk_new_written sheet plan view k r ≡ new_written sheet plan view k x
-        go (Refused c) h = rw (h, b.is, door_open {o = w} l, (said_refused says h).1)
-        go (Done len n) h = rw (h, b.is, door_open {o = w} l, (said_done says h).is)
+        go : (t : WalkReply) → r ≡ t → walk_new_written sheet plan view k r ≡ new_written sheet plan view k x
+        go (Err e) h = rw (h, b.is, door_open {o = w} l, (said_refused says (ap told h)).1)
+        go (Ok y) h = rw (h, b.is, door_open {o = w} l, (said_done says (ap told h)).is)

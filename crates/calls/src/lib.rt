@@ -4,12 +4,11 @@
 ghost use Rattle.std.specs.Prelude.{◌≡◌, ◌+◌, ◌≤◌, min, length, drop};
 ghost use Rattle.std.specs.Prelude.{Ok, Err};
 ghost use Rattle.std.proofs.Math.Seq.{paste};
-ghost use Rattle.value.specs.Numbered.{numbered};
 ghost use Rattle.rules.specs.Numbers.{scratch_size, stack_start};
 ghost use Rattle.rules.specs.Answer.{get_answer, put_answer};
 ghost use Rattle.buffers.specs.Buffers.{zeros, zeroed};
 ghost use Rattle.calls.specs.Calls.{Answered, PutAnswered};
-ghost use Rattle.arena.specs.Door.{opening};
+ghost use Rattle.arena.specs.Door.{Judges};
 ghost use Rattle.calls.specs.Reply.{told, put_told};
 ghost use Rattle.calls.specs.Output.{HasRoom, output_of};
 ghost use Rattle.calls.specs.Trips.{Consistent, Acceptable};
@@ -17,7 +16,10 @@ ghost use Rattle.calls.specs.Trips.{Consistent, Acceptable};
 use buffers::{clear, copy_out};
 use refusal::Refusal;
 use starts::Starts;
-pub use walk::{Done, Reply};
+pub use walk::Done;
+
+/// What a walk and a call answer.
+pub type Reply = Result<Done, Refusal>;
 
 /// What a put gives: the length of its new plan and the steps that it took, where the plan's values start, and which plan variables took a view, bit i
 /// for variable i, also where its value is the old one.
@@ -31,7 +33,7 @@ pub struct PutDone {
 /// What a call refuses before it reads anything: `OutputSmall` for an output under `need` bytes (rules::GET_OUTPUT, rules::PUT_OUTPUT), then
 /// `ScratchSmall`, then `AllowanceRange`.
 pub fn door(need: usize, output: usize, scratch: usize, allowance: usize) -> Result<(), Refusal>
-    ensures { numbered result ≡ opening need output scratch allowance }
+    ensures { Judges need output scratch allowance result }
 {
     if output < need {
         return Err(Refusal::OutputSmall);
@@ -41,7 +43,7 @@ pub fn door(need: usize, output: usize, scratch: usize, allowance: usize) -> Res
 
 /// The same for a call that takes no output: `ScratchSmall` or `AllowanceRange`.
 pub fn side_door(scratch: usize, allowance: usize) -> Result<(), Refusal>
-    ensures { numbered result ≡ opening 0 0 scratch allowance }
+    ensures { Judges 0 0 scratch allowance result }
 {
     door(0, 0, scratch, allowance)
 }

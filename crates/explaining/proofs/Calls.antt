@@ -15,7 +15,7 @@ use Rattle.walk.specs.declared.chain.Met.{Met}
 use Rattle.walk.specs.Call.{WalkCall}
 use Rattle.walk.specs.Call.Explained.{why_of, Explains}
 use Rattle.explaining.specs.Explain.{WhyReply}
-use Rattle.calls.specs.Reply.{Reply}
+use Rattle.walk.specs.Reply.{Reply}
 use Rattle.buffers.specs.Buffers.{zeroed}
 use Rattle.calls.specs.Calls.{after_refusal}
 use Rattle.calls.specs.CallLaws.{zeros_same}

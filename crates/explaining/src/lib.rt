@@ -5,14 +5,13 @@ ghost use Rattle.std.specs.Prelude.{◌≡◌, ◌≤◌, Some, length};
 ghost use Rattle.refusal.specs.Refusal.{number_of};
 ghost use Rattle.rules.specs.Numbers.{scratch_size, chain_limit};
 ghost use Rattle.rules.specs.Explain.Calls.{why_get, why_put};
-ghost use Rattle.calls.specs.Reply.{told};
 ghost use Rattle.walk.specs.Call.Explained.{met_at, why_of};
 ghost use Rattle.explaining.specs.Explain.{unmet, told_as, why_reply, WhyAnswered};
 
 use buffers::{clear, copy_out};
-use calls::side_door;
+use calls::{Reply, side_door};
 use refusal::Refusal;
-use walk::{Met, Reply};
+use walk::Met;
 
 /// Why a call is refused: the refusal; how many nodes its chain has, 0 for a refusal from before the walk; the chain's nodes, the root first, and
 /// zeros behind them; and of `Clash` one more than the node that wrote first, 0 otherwise.
@@ -60,7 +59,7 @@ fn refused(refusal: Refusal, met: Met, scratch: &[u8]) -> Why
 // A walk's answer, explained: nothing where it is done.
 fn explained(walked: Reply, met: Met, scratch: &[u8]) -> Option<Why>
     requires { (met.depth ≤ chain_limit) × (scratch_size ≤ length scratch.now) }
-    ensures { why_reply result ≡ told_as (why_of scratch.now (told walked) met) }
+    ensures { why_reply result ≡ told_as (why_of scratch.now walked met) }
 {
     match walked {
         Ok(_) => None,

@@ -4,7 +4,8 @@ use lib.ListN.{length}
 use Rattle.value.proofs.Numbered.{passed_on}
 use Rattle.rules.specs.Laws.Answers.{DoorOpens}
 use Rattle.buffers.specs.Buffers.{cleared_whole}
-use Rattle.arena.specs.Door.{opens_lent, refused_shut}
+use Rattle.arena.specs.Door.{door_opens}
+use Rattle.calls.specs.CallLaws.{refused_shut}
 use Rattle.accepts.specs.Calls.{shut_told}
 use Rattle.accepts.proofs.Behind.{behind}
 use Rattle.accepts.proofs.accepts.Goals as goal
@@ -12,11 +13,11 @@ use Rattle.accepts.proofs.accepts.Goals.{In_ok-side_door}
 
 -- what is lent behind the door
 lent : (c : In_ok-side_door) → DoorOpens 0 0 (length c.args.scratch.now) c.args.allowance
-lent c = opens_lent c.in_ok-side_door.ensures
+lent c = door_opens c.in_ok-side_door.ensures
 
 pub returns-in_err-side_door : goal.returns-in_err-side_door
 returns-in_err-side_door c =
-    let d = refused_shut _ _ _ _ c.in_err-side_door.ensures in
+    let d = refused_shut _ _ _ _ _ c.in_err-side_door.ensures in
     rw (passed_on c.from_residual.result c.from_residual.ensures.1)
     (shut_told c.args.sheet.now c.args.old.now c.args.view.now c.args.new.now c.args.allowance c.args.scratch.now d.0 d.1)
 

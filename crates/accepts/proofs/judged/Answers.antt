@@ -7,7 +7,8 @@ use Rattle.value.specs.Numbered.{numbered}
 use Rattle.value.proofs.Numbered.{passed_on}
 use Rattle.value.proofs.SpansLaws.{view_ok, view_refusal}
 use Rattle.sheet.specs.Laws.{table_refused}
-use Rattle.walk.specs.Reply.{told}
+use Rattle.calls.specs.Reply.{told}
+use Rattle.calls.specs.WalkCalls.{told_says}
 use Rattle.accepts.specs.Calls.{ready, values_not, values_of, values_none, both_read, built, no_sheet, no_old, no_view, no_new, Beside}
 use Rattle.accepts.specs.Calls.{on_yes, on_no, on_refused}
 use Rattle.accepts.proofs.judged.Goals as goal
@@ -31,7 +32,7 @@ beside c =
       view_read = v.1;
       ν = n.vs;
       new_read = n.read;
-      says = c.get-got.ensures.walk_call.says c.requires;
+      says = told_says (c.get-got.ensures.walk_call.says c.requires);
       told = c.listed.ensures;
     }
 
@@ -66,7 +67,7 @@ returns-in_default-clause-value c =
 pub listed-requires : goal.listed-requires
 listed-requires c =
     let w = c.get-got.ensures.walk_call in
-    built (w.says c.requires) (omega (arith, w.free.long, c.requires.scratch_long))
+    built (told_says (w.says c.requires)) (omega (arith, w.free.long, c.requires.scratch_long))
 
 pub returns-in_err-same_list-clause-value : goal.returns-in_err-same_list-clause-value
 returns-in_err-same_list-clause-value c =

@@ -4,7 +4,8 @@ use lib.ListN.{length}
 use Rattle.value.proofs.Numbered.{passed_on}
 use Rattle.rules.specs.Numbers.{put_output}
 use Rattle.rules.specs.Laws.Answers.{DoorOpens}
-use Rattle.arena.specs.Door.{opens_lent, refused_shut}
+use Rattle.arena.specs.Door.{door_opens}
+use Rattle.calls.specs.CallLaws.{refused_shut}
 use Rattle.calls.specs.Reply.{told}
 use Rattle.calls.specs.Trips.{with_consistent}
 use Rattle.calls.specs.WalkCalls.{put_behind, none_refused, clear_refused, call_shut, call_fits, call_told, call_starts, call_written}
@@ -13,11 +14,11 @@ use Rattle.calls.proofs.put.Goals.{In_ok-door}
 
 -- what is lent behind the door
 lent : (c : In_ok-door) → DoorOpens put_output (length c.args.out.now) (length c.args.scratch.now) c.args.allowance
-lent c = opens_lent c.in_ok-door.ensures
+lent c = door_opens c.in_ok-door.ensures
 
 pub returns-in_err-door : goal.returns-in_err-door
 returns-in_err-door c =
-    let d = refused_shut _ _ _ _ c.in_err-door.ensures in
+    let d = refused_shut _ _ _ _ _ c.in_err-door.ensures in
     let s = call_shut (put_behind _ _ _ _ _ _) d.0 d.1 in
     let (p0, p1) = with_consistent _ _ _ _ _ _ s (none_refused _ _ s.answer) (clear_refused _ _ _ _ _ s.answer) in
     rw (passed_on c.from_residual.result c.from_residual.ensures.1) (record { put_answered = p0; consistent = p1 })

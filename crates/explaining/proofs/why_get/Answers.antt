@@ -2,18 +2,17 @@
 use lib.ListN.{length}
 use Rattle.rules.specs.Laws.Answers.{DoorOpens}
 use Rattle.buffers.specs.Buffers.{cleared_whole}
-use Rattle.arena.specs.Door.{refused_shut}
-use Rattle.calls.specs.CallLaws.{lent_else}
+use Rattle.calls.specs.CallLaws.{refused_shut, lent_else}
 use Rattle.explaining.proofs.Calls.{get_shut, why_long, get_explained}
 use Rattle.explaining.proofs.why_get.Goals as goal
 use Rattle.explaining.proofs.why_get.Goals.{In_default}
 
 -- what is lent behind the door
 lent : (c : In_default) → DoorOpens 0 0 (length c.args.scratch.now) c.args.allowance
-lent c = lent_else c.side_door.ensures c.in_default.not-Err
+lent c = lent_else _ c.side_door.ensures c.in_default.not-Err
 
 pub returns-in-Err : goal.returns-in-Err
-returns-in-Err c = let s = refused_shut _ _ _ _ c.in-Err.ensures in get_shut _ _ s.0 s.1 c.unmet.ensures _ _
+returns-in-Err c = let s = refused_shut _ _ _ _ _ c.in-Err.ensures in get_shut _ _ s.0 s.1 c.unmet.ensures _ _
 
 pub explained-why-requires : goal.explained-why-requires
 explained-why-requires c =

@@ -19,7 +19,11 @@ use Rattle.walk.specs.declared.chain.Met.{Met}
 use Rattle.walk.specs.Decoded.{bytes_at, writer, length_bytes}
 use Rattle.walk.specs.Call.Explained.{met_at, why_of}
 use Rattle.explaining.specs.Explain.{WhyReply}
-use Rattle.calls.specs.Reply.{Reply, Done, Refused}
+use Rattle.std.specs.Prelude.{Ok, Err}
+use Rattle.refusal.specs.declared.Refusal.{Refusal}
+use Rattle.refusal.specs.Refusal.{number_of}
+use Rattle.walk.specs.Reply.{Reply}
+use Rattle.walk.specs.declared.Done.{Done}
 use Rattle.buffers.specs.Buffers.{copied, copied_room}
 use Rattle.calls.specs.CallLaws.{at_front}
 use Rattle.explaining.specs.Explain.{unmet, first_number, told_as, WhyAnswered}
@@ -27,11 +31,11 @@ use Rattle.explaining.specs.Explain.{unmet, first_number, told_as, WhyAnswered}
 -- A WALK'S ANSWER, CASE BY CASE
 
 module _ (a : List ℕ) {w : Reply} (m : Met) where
-  pub told_done : {len n : ℕ} → w ≡ Done len n → unmet 0 ≡ told_as (why_of a w m)
+  pub told_done : {d : Done} → w ≡ Ok d → unmet 0 ≡ told_as (why_of a w m)
   unfolding told_as why_of
   told_done e = rw e
 
-  pub told_refused : {c : ℕ} → w ≡ Refused c → told_as (met_at a c m.depth m.first) ≡ told_as (why_of a w m)
+  pub told_refused : {e : Refusal} → w ≡ Err e → told_as (met_at a (number_of e) m.depth m.first) ≡ told_as (why_of a w m)
   unfolding why_of
   told_refused e = rw e
 

@@ -1,8 +1,7 @@
 -- `get_then_put` meets its contract: an unedited list gives back the old plan. Assumes nothing.
 use mathlib.Core.Path.{refl}
 use native.Mathlib.Omega.{arith}
-use Rattle.arena.specs.Door.{refused_shut}
-use Rattle.calls.specs.CallLaws.{done_inside, lent_else}
+use Rattle.calls.specs.CallLaws.{refused_shut, done_inside, lent_else}
 use Rattle.trips.specs.TripCalls.{front_long, get_few, get_stopped, put_shut, put_judged}
 use Rattle.trips.proofs.get_then_put.Goals as goal
 
@@ -11,7 +10,7 @@ overflow_mul-most c = omega (arith, get_few _ _ _ _ _ c.in-Ok.ensures.answered r
 
 pub returns-in-Err-door : goal.returns-in-Err-door
 returns-in-Err-door c =
-    let d = refused_shut _ _ _ _ c.in-Err-door.ensures in
+    let d = refused_shut _ _ _ _ _ c.in-Err-door.ensures in
     let (p0, p1) = put_shut _ _ _ _ _ _ c.in-Ok.ensures.answered c.get.auto.scratch refl d.0 d.1 in
     record { tripped = p0; plan_stays = p1 }
 
@@ -29,7 +28,7 @@ returns-in-Err c = let (p0, p1) = get_stopped _ _ _ _ _ _ c.in-Err.ensures.answe
 
 pub returns-in_default : goal.returns-in_default
 returns-in_default c =
-    let l = lent_else c.door-door.ensures c.in_default.not-Err in
+    let l = lent_else _ c.door-door.ensures c.in_default.not-Err in
     let v = rw c.reply_of.ensures at c.judged.ensures in
     let (p0, p1) = put_judged _ _ _ _ _ _ c.in-Ok.ensures.answered c.get.auto.scratch refl l c.put-again.ensures.put_answered.call v in
     record { tripped = p0; plan_stays = p1 }
