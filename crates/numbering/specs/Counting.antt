@@ -1,9 +1,11 @@
 -- The uses of a sheet's nodes, counted in an array up to two.
-use Rattle.std.specs.Prelude.{◌≡◌, refl, Bool, true, false, cond, List, [], ◌∷◌, ◌++◌, ℕ, zero, suc, ◌+◌, ◌*◌, ◌-◌, ◌≤◌, ◌<◌, min, leb, ltb, eqb, length, ◌==◌, Option, Some, None}
+use Rattle.std.specs.Prelude.{◌≡◌, refl, Bool, true, false, cond, List, [], ◌∷◌, ◌++◌, ℕ, zero, suc, ◌+◌, ◌*◌, ◌-◌, ◌≤◌, ◌<◌, min, leb, ltb, eqb, length}
+use Rattle.std.specs.Prelude.{◌==◌, Option, Some, None}
 use Rattle.std.specs.Prelude.{get_or, set, take, drop, replicate}
 use Rattle.std.specs.List.{position, position_or_len}
 use Rattle.std.proofs.Math.Path.{ap, sym}
-use Rattle.std.proofs.Common.{◌∙◌, append_assoc, append-nil, zero-add, add-one, arith, length-set, length-append, length-take-le, drop-cons, take-suc, take_all, get_or-set_same}
+use Rattle.std.proofs.Common.{◌∙◌, append_assoc, append-nil, zero-add, add-one, arith, length-set, length-append, length-take-le, drop-cons, take-suc}
+use Rattle.std.proofs.Common.{take_all, get_or-set_same}
 use Rattle.std.proofs.Common.{get_or-set_other, eq-eqb, ne_eqb, le-leb, lt-ltb, le-ltb, Fits}
 use Rattle.std.proofs.Math.Decide.{ℕ_discrete, dec_le, dec_lt}
 use Rattle.std.proofs.lemmas.List.{length-replicate, get_or-replicate}

@@ -62,8 +62,8 @@ module _ {s : List ℕ} {t : Table} (f : Fine s t) where
   pub is_single : None ≡ used_twice (fine_read f).0 → Single s t
   is_single h = record { fine = f; once = all_once (fine_read f).0 (none-twice h) (λ k i. uses_in (fine_read f).1.ranges i) }
 
-  pub is_done : (b : List ℕ) → 2048 ≤ length b → (h : None ≡ used_twice (fine_read f).0) → Bytes s → {ns : Nodes} {m : Anew} {b' : List ℕ} {r : ℕ} → Ordered s ns → Numbers ns m
-      → Wrote (text_anew s t m) 0 b b' r → Answers (number_answer s (length b)) (Done r) b b'
+  pub is_done : (b : List ℕ) → 2048 ≤ length b → (h : None ≡ used_twice (fine_read f).0) → Bytes s → {ns : Nodes} {m : Anew} {b' : List ℕ} {r : ℕ}
+      → Ordered s ns → Numbers ns m → Wrote (text_anew s t m) 0 b b' r → Answers (number_answer s (length b)) (Done r) b b'
   unfolding is_single
   is_done b room h small met new w =
       let g = is_single h in

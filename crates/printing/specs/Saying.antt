@@ -13,6 +13,7 @@ use Rattle.tokens.specs.Quoted.{bytes}
 use Rattle.syntax.specs.Printer.{Reach, reach, gap, the, sign, space, line, called}
 use Rattle.syntax.specs.Printer.{Piece, Speaker, alone, in_list, body_said, test_said, plain_node, said}
 use Rattle.syntax.specs.Setting.{text_in}
+use Rattle.printing.specs.declared.nodes.Source.{Source}
 use Rattle.printing.specs.declared.pieces.Scope.{Scope}
 use Rattle.printing.specs.Pieces.{reach_of, Bounded}
 
@@ -31,28 +32,28 @@ says_then {f} {g} p q = record {
 }
 
 -- WHAT THE FUNCTIONS ARE LENT: a sheet's bytes, where each record starts, and a mark for each node that has no case in it
-pub record Known (s starts : List ℕ) (plain : List Bool) (sh : Sheet) : Type 0 where
-  pub node : (i : ℕ) → i < length sh.nodes → node_at s (get_or starts i 0) ≡ node_of sh i
-  pub flat : (i : ℕ) → i < length sh.nodes → get_or plain i false ≡ plain_node sh i
+pub record Known (src : Source) (sh : Sheet) : Type 0 where
+  pub node : (i : ℕ) → i < length sh.nodes → node_at src.sheet.now (get_or src.table i 0) ≡ node_of sh i
+  pub flat : (i : ℕ) → i < length sh.nodes → get_or src.plain i false ≡ plain_node sh i
   pub ranges : Ranges sh
 
 -- node n is there, and so far below the roots there are few variables and few blanks
-pub record Ready (s starts : List ℕ) (plain : List Bool) (n : ℕ) (w : Scope) : Type 0 where
+pub record Ready (src : Source) (n : ℕ) (w : Scope) : Type 0 where
   pub sheet : Sheet
-  pub known : Known s starts plain sheet
+  pub known : Known src sheet
   pub inside : n < length sheet.nodes
   pub few : w.count ≤ 2 * n + 16
   pub shallow : w.indent ≤ 6 * n + 2
 
 -- and it is a node of this kind
-pub record Standing (s starts : List ℕ) (plain : List Bool) (n : ℕ) (w : Scope) (node : Node) (kind : ℕ) : Type 0 where
-  pub ready : Ready s starts plain n w
-  pub is : node_at s (get_or starts n 0) ≡ node
+pub record Standing (src : Source) (n : ℕ) (w : Scope) (node : Node) (kind : ℕ) : Type 0 where
+  pub ready : Ready src n w
+  pub is : node_at src.sheet.now (get_or src.table n 0) ≡ node
   pub of_kind : (row node).kind ≡ kind
 
 -- the rest of a list may have its node two blanks to the right
-pub record Trailing (s starts : List ℕ) (plain : List Bool) (n : ℕ) (w : Scope) : Type 0 where
-  pub ready : Ready s starts plain n w
+pub record Trailing (src : Source) (n : ℕ) (w : Scope) : Type 0 where
+  pub ready : Ready src n w
   pub shallower : w.indent ≤ 6 * n
 
 -- what the definition says of a case on a list from its defaults on; nothing of another node
@@ -93,19 +94,19 @@ meant (Branch w t) n sh l k = body_said (said sh l) (plain_node sh) (reach_of w)
 meant (Defaults w x) n sh l k = defaults_said (said sh (pred l)) (plain_node sh) (reach_of w) w.indent x k
 
 -- WHAT THEY TELL: whatever the sheet is, and with whatever levels are enough for node n
-pub record Tells (s starts : List ℕ) (plain : List Bool) (n : ℕ) (x : Way) (i : ℕ) (b b' : List ℕ) (r : ℕ) : Type 0 where
-  pub told : (sh : Sheet) → Known s starts plain sh → n < length sh.nodes → (l : ℕ) → length sh.nodes ≤ n + l → Says (meant x n sh l) i b b' r
+pub record Tells (src : Source) (n : ℕ) (x : Way) (i : ℕ) (b b' : List ℕ) (r : ℕ) : Type 0 where
+  pub told : (sh : Sheet) → Known src sh → n < length sh.nodes → (l : ℕ) → length sh.nodes ≤ n + l → Says (meant x n sh l) i b b' r
 
-module _ {s starts : List ℕ} {plain : List Bool} {n : ℕ} {w : Scope} where
-  pub ready_few : Ready s starts plain n w → n < 200
+module _ {src : Source} {n : ℕ} {w : Scope} where
+  pub ready_few : Ready src n w → n < 200
   ready_few r = omega (arith, r.inside, r.known.ranges.few_nodes)
 
-  pub ready_bounded : Ready s starts plain n w → Bounded w
+  pub ready_bounded : Ready src n w → Bounded w
   ready_bounded r =
       let z = ready_few r in
       record { few = omega (arith, r.few); shallow = omega (arith, r.shallow) }
 
   -- the buffer is as long as it was
-  pub tells_long : {x : Way} {i r : ℕ} {b b' : List ℕ} → Ready s starts plain n w → Tells s starts plain n x i b b' r
+  pub tells_long : {x : Way} {i r : ℕ} {b b' : List ℕ} → Ready src n w → Tells src n x i b b' r
       → length b' ≡ length b
   tells_long q t = wrote_long (t.told q.sheet q.known q.inside (length q.sheet.nodes) (omega arith)).put

@@ -1,5 +1,5 @@
 -- THE WHOLE SHEET, part by part: the plan, the list, each section.
-use Rattle.std.specs.Prelude.{◌≡◌, refl, Bool, false, List, [], ◌∷◌, ◌++◌, ℕ, zero, suc, pred, ◌+◌, ◌≤◌, ◌<◌, length, get_or, drop}
+use Rattle.std.specs.Prelude.{◌≡◌, refl, false, List, [], ◌∷◌, ◌++◌, ℕ, zero, suc, pred, ◌+◌, ◌≤◌, ◌<◌, length, get_or, drop}
 use Rattle.std.proofs.Common.{sym, ap, subst, ◌∙◌, append_assoc, arith, add-one, drop_of_length-le}
 use Rattle.report.specs.Writing.{Wrote, wrote_then, wrote_text, wrote_long}
 use Rattle.sheet.specs.declared.Table.{Table}
@@ -12,6 +12,7 @@ use Rattle.syntax.specs.Printer.{Piece, gap, the, sign, space, part_name, called
 use Rattle.syntax.specs.Printer.{reach, root_said, plan_said, sections_said, sheet_said, name_of, suffix}
 use Rattle.syntax.specs.Setting.{text_in}
 use Rattle.syntax.specs.Texts.{text_of}
+use Rattle.printing.specs.declared.nodes.Source.{Source}
 use Rattle.printing.specs.declared.pieces.First.TheVariants.{A}
 use Rattle.printing.specs.declared.pieces.Scope.{Scope}
 use Rattle.printing.specs.Flat.{Flats}
@@ -32,10 +33,10 @@ pub record Roots (s : List ℕ) (count : ℕ) (sh : Sheet) : Type 0 where
   pub many : count ≡ length sh.sections
   pub root : (i : ℕ) → i < length sh.sections → section_at s i ≡ get_or sh.sections i 0
 
-pub record Lent (s starts : List ℕ) (plain : List Bool) (count : ℕ) : Type 0 where
+pub record Lent (src : Source) (count : ℕ) : Type 0 where
   pub sheet : Sheet
-  pub known : Known s starts plain sheet
-  pub roots : Roots s count sheet
+  pub known : Known src sheet
+  pub roots : Roots src.sheet.now count sheet
 
 -- the first i sections are written
 pub record Sectioned (sh : Sheet) (i at : ℕ) (b b' : List ℕ) (r : ℕ) : Type 0 where
@@ -43,8 +44,8 @@ pub record Sectioned (sh : Sheet) (i at : ℕ) (b b' : List ℕ) (r : ℕ) : Typ
   pub put : Wrote text at b b' r
   pub is : text_in (sections_said sh 0 sh.sections) ≡ text ++ text_in (sections_said sh i (drop i sh.sections))
 
-pub record SectionsPut (s starts : List ℕ) (plain : List Bool) (count i at : ℕ) (b b' : List ℕ) (r : ℕ) : Type 0 where
-  pub told : (sh : Sheet) → Known s starts plain sh → Roots s count sh → Sectioned sh i at b b' r
+pub record SectionsPut (src : Source) (count i at : ℕ) (b b' : List ℕ) (r : ℕ) : Type 0 where
+  pub told : (sh : Sheet) → Known src sh → Roots src.sheet.now count sh → Sectioned sh i at b b' r
 
 -- THE TEXT of whatever sheet is read
 pub record Prints (s : List ℕ) (t : Table) (b b' : List ℕ) (r : ℕ) : Type 0 where
@@ -52,26 +53,27 @@ pub record Prints (s : List ℕ) (t : Table) (b b' : List ℕ) (r : ℕ) : Type 
 
 -- WHAT THEY ARE LENT
 module _ {s : List ℕ} {t : Table} {sh : Sheet} (r : Reads s t sh) where
-  pub known_of : {plain : List Bool} → Flats sh 0 plain → Known s t.starts plain sh
-  known_of f = record { node = r.node; flat = λ i h. f.told i (omega arith) h; ranges = r.ranges }
+  pub known_of : {src : Source} → src.sheet.now ≡ s → src.table ≡ t.starts → Flats sh 0 src.plain → Known src sh
+  known_of e q f = record { node = rw (e, q) r.node; flat = λ i h. f.told i (omega arith) h; ranges = r.ranges }
 
   pub roots_of : Roots s t.sections sh
   roots_of = record { many = r.sections; root = r.section }
 
 -- the list's root, and a section's
-pub root_ready : {s : List ℕ} {t : Table} {sh : Sheet} {plain : List Bool} {w : Scope} → Reads s t sh → Flats sh 0 plain → w.count ≡ t.k → w.indent ≡ 2
-    → Ready s t.starts plain t.root w
+pub root_ready : {s : List ℕ} {t : Table} {sh : Sheet} {src : Source} {w : Scope} → Reads s t sh → Known src sh → w.count ≡ t.k → w.indent ≡ 2
+    → Ready src t.root w
 root_ready {sh = sh} r f e d = record {
   sheet = sh;
-  known = known_of r f;
+  known = f;
   inside = omega (arith, r.root, r.ranges.root);
   few = omega (arith, r.k, r.ranges.few_variables);
   shallow = omega arith;
 }
 
-pub section_ready : {s starts : List ℕ} {plain : List Bool} {count i n : ℕ} {w : Scope} → (q : Lent s starts plain count) → i < count → n ≡ section_at s i → w.count ≡ 2
-    → w.indent ≡ 2 → Ready s starts plain n w
-section_ready {s} {i = i} {n} q h e f d =
+pub section_ready : {src : Source} {count i n : ℕ} {w : Scope}
+    → (q : Lent src count) → i < count → n ≡ section_at src.sheet.now i → w.count ≡ 2
+    → w.indent ≡ 2 → Ready src n w
+section_ready {i = i} {n} q h e f d =
     let l : i < length q.sheet.sections = omega (arith, q.roots.many) in
     let z : n ≡ get_or q.sheet.sections i 0 = e ∙ q.roots.root i l in
     record {
@@ -119,7 +121,7 @@ plan_all {i} {k} {at} {r} {b} {b'} p h l = let z : pred i ≡ pred k = omega ari
 
 -- THE SECTIONS, one by one
 
-pub sections_none : {s starts : List ℕ} {plain : List Bool} {count at r : ℕ} {b b' : List ℕ} → Wrote [] at b b' r → SectionsPut s starts plain count 0 at b b' r
+pub sections_none : {src : Source} {count at r : ℕ} {b b' : List ℕ} → Wrote [] at b b' r → SectionsPut src count 0 at b b' r
 sections_none w = record { told = λ sh k g. record { text = []; put = w; is = refl } }
 
 drop_next : (l : List ℕ) (i : ℕ) → i < length l → drop i l ≡ get_or l i 0 ∷ drop (suc i) l
@@ -127,11 +129,12 @@ drop_next [] i h = absurd (omega arith)
 drop_next (x ∷ l) zero h = refl
 drop_next (x ∷ l) (suc i) h = drop_next l i (omega arith)
 
-pub sections_more : {s starts : List ℕ} {plain : List Bool} {count i n at m₁ m₂ r : ℕ} {b b₁ b₂ b₃ : List ℕ} → SectionsPut s starts plain count i at b b₁ m₁ → i < count
-    → Wrote (head_text i) m₁ b₁ b₂ m₂ → n ≡ section_at s i → Tells s starts plain n (Body (record { count = 2; first = A; indent = 2 })) m₂ b₂ b₃ r
-    → SectionsPut s starts plain count (i + 1) at b b₃ r
+pub sections_more : {src : Source} {count i n at m₁ m₂ r : ℕ} {b b₁ b₂ b₃ : List ℕ}
+    → SectionsPut src count i at b b₁ m₁ → i < count
+    → Wrote (head_text i) m₁ b₁ b₂ m₂ → n ≡ section_at src.sheet.now i → Tells src n (Body (record { count = 2; first = A; indent = 2 })) m₂ b₂ b₃ r
+    → SectionsPut src count (i + 1) at b b₃ r
 unfolding text_in spelled sections_said head_text called name_of suffix
-sections_more {s} {i = i} {n} u h w e t = record {
+sections_more {i = i} {n} u h w e t = record {
   told = λ sh k g.
       let z = u.told sh k g in
       let l : i < length sh.sections = omega (arith, g.many) in
@@ -153,24 +156,25 @@ sections_more {s} {i = i} {n} u h w e t = record {
     four : (a c d f k : List ℕ) → a ++ (c ++ (d ++ (f ++ k))) ≡ ((a ++ (c ++ d)) ++ f) ++ k
     four a c d f k = simp append_assoc
 
-pub sections_all : {s starts : List ℕ} {plain : List Bool} {count i at r : ℕ} {b b' : List ℕ} → SectionsPut s starts plain count i at b b' r → i ≤ count → count ≤ i
-    → SectionsPut s starts plain count count at b b' r
-sections_all {s} {starts} {plain} {count} {i} {at} {r} {b} {b'} u h l =
-    let z : i ≡ count = omega arith in subst (λ (n : ℕ). SectionsPut s starts plain count n at b b' r) z u
+pub sections_all : {src : Source} {count i at r : ℕ} {b b' : List ℕ} → SectionsPut src count i at b b' r
+    → i ≤ count → count ≤ i → SectionsPut src count count at b b' r
+sections_all {src} {count} {i} {at} {r} {b} {b'} u h l =
+    let z : i ≡ count = omega arith in subst (λ (n : ℕ). SectionsPut src count n at b b' r) z u
 
-pub sections_long : {s starts : List ℕ} {plain : List Bool} {count i at r : ℕ} {b b' : List ℕ} → Lent s starts plain count → SectionsPut s starts plain count i at b b' r
+pub sections_long : {src : Source} {count i at r : ℕ} {b b' : List ℕ} → Lent src count
+    → SectionsPut src count i at b b' r
     → length b' ≡ length b
 sections_long q u = wrote_long (u.told q.sheet q.known q.roots).put
 
 -- THE WHOLE
-pub prints : {s : List ℕ} {plain : List Bool} {t : Table} {m₁ m₂ m₃ m₄ r : ℕ} {b b₁ b₂ b₃ b₄ b₅ : List ℕ} → ((sh : Sheet) → Reads s t sh → Flats sh 0 plain)
+pub prints : {src : Source} {t : Table} {m₁ m₂ m₃ m₄ r : ℕ} {b b₁ b₂ b₃ b₄ b₅ : List ℕ} → ((sh : Sheet) → Reads src.sheet.now t sh → Known src sh)
     → Planned (pred t.k) 0 b b₁ m₁ → Wrote (bytes "\nlist =") m₁ b₁ b₂ m₂
-    → Tells s t.starts plain t.root (Body (record { count = t.k; first = A; indent = 2 })) m₂ b₂ b₃ m₃
-    → SectionsPut s t.starts plain t.sections t.sections m₃ b₃ b₄ m₄ → Wrote (bytes "\n") m₄ b₄ b₅ r → Prints s t b b₅ r
+    → Tells src t.root (Body (record { count = t.k; first = A; indent = 2 })) m₂ b₂ b₃ m₃
+    → SectionsPut src t.sections t.sections m₃ b₃ b₄ m₄ → Wrote (bytes "\n") m₄ b₄ b₅ r → Prints src.sheet.now t b b₅ r
 unfolding text_of sheet_said text_in spelled sections_said
-prints {t = t} flats p w body sections v = record {
+prints {t = t} known p w body sections v = record {
   told = λ sh q.
-      let k = known_of q (flats sh q) in
+      let k = known sh q in
       let u = body.told sh k (omega (arith, q.root, q.ranges.root)) (length sh.nodes) (omega arith) in
       let z = sections.told sh k (roots_of q) in
       let none : drop t.sections sh.sections ≡ [] = drop_of_length-le sh.sections {i = t.sections} (omega (arith, q.sections)) in

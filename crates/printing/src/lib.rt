@@ -8,7 +8,7 @@ ghost use Rattle.numbering.specs.Counting.{Fine};
 ghost use Rattle.printing.specs.Whole.{Planned, head_text, Lent, SectionsPut, Prints};
 ghost use Rattle.printing.specs.Answer.{print_answer};
 
-use crate::nodes::body;
+use crate::nodes::Source;
 use crate::pieces::{First, Scope, name, part};
 use crate::plain::plain_nodes;
 use numbering::{Fault, Numbered};
@@ -45,16 +45,9 @@ fn head(i: usize, out: &mut [u8], at: usize) -> usize
 }
 
 // The sections, of which there are so many.
-fn sections(
-    sheet: &[u8],
-    table: &[u16; 200],
-    plain: &[bool; 200],
-    count: usize,
-    out: &mut [u8],
-    at: usize,
-) -> usize
-    requires { Lent sheet.now table.now plain.now count }
-    ensures { SectionsPut sheet.now table.now plain.now count count at out.old out.new result }
+fn sections(source: &Source, count: usize, out: &mut [u8], at: usize) -> usize
+    requires { Lent source.now count }
+    ensures { SectionsPut source.now count count at out.old out.new result }
 {
     let scope = Scope {
         count: 2,
@@ -64,15 +57,7 @@ fn sections(
     let mut end = report::place(out, at);
     for i in 0..count {
         end = head(i, out, end);
-        end = body(
-            sheet,
-            table,
-            plain,
-            sheet::section_root(sheet, i),
-            scope,
-            out,
-            end,
-        );
+        end = source.body(sheet::section_root(source.sheet, i), scope, out, end);
     }
     end
 }
@@ -84,6 +69,11 @@ fn write(sheet: &[u8], t: Table, out: &mut [u8]) -> usize
 {
     let plain = plain_nodes(sheet, t);
     let table = t.starts;
+    let source = Source {
+        sheet,
+        table,
+        plain,
+    };
     let scope = Scope {
         count: t.k,
         first: First::A,
@@ -91,8 +81,8 @@ fn write(sheet: &[u8], t: Table, out: &mut [u8]) -> usize
     };
     let mut end = plan(t.k, out, 0);
     end = bytes(out, end, b"\nlist =");
-    end = body(sheet, &table, &plain, t.root, scope, out, end);
-    end = sections(sheet, &table, &plain, t.sections, out, end);
+    end = source.body(t.root, scope, out, end);
+    end = sections(&source, t.sections, out, end);
     byte(out, end, b'\n')
 }
 

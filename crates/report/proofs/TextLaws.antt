@@ -1,6 +1,8 @@
 -- What is written reads back: a byte is its two digits, and decimal text is its number. How long text is, and how it grows.
-use Rattle.std.specs.Prelude.{cond, ◌≡◌, refl, List, [], ◌∷◌, ◌++◌, map, ℕ, zero, suc, ◌+◌, ◌-◌, ◌*◌, ◌/◌, ◌%◌, ◌^◌, ◌≤◌, ◌<◌, min, ltb, length, take, drop, get_or}
-use Rattle.std.proofs.Common.{sym, ◌∙◌, append-nil, append_assoc, zero-le, pow-suc, add-one, arith, lt-ltb, le-ltb, length-append, length-take-le, take-append-drop, drop_of_length-le, take-suc}
+use Rattle.std.specs.Prelude.{cond, ◌≡◌, refl, List, [], ◌∷◌, ◌++◌, map, ℕ, zero, suc, ◌+◌, ◌-◌, ◌*◌, ◌/◌, ◌%◌, ◌^◌, ◌≤◌, ◌<◌, min, ltb, length, take, drop}
+use Rattle.std.specs.Prelude.{get_or}
+use Rattle.std.proofs.Common.{sym, ◌∙◌, append-nil, append_assoc, zero-le, pow-suc, add-one, arith, lt-ltb, le-ltb, length-append, length-take-le}
+use Rattle.std.proofs.Common.{take-append-drop, drop_of_length-le, take-suc}
 use Rattle.std.proofs.Math.Decide.{dec_le, dec_lt}
 use Rattle.std.proofs.lemmas.List.Edits.{sets-eq}
 use Rattle.report.specs.Text.{digit_of, hex_of, decimal_in, decimal_of, words, refusal_line, ok_line, success_line}

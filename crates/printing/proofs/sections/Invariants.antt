@@ -3,4 +3,4 @@ use Rattle.printing.specs.Whole.{SectionsPut}
 use Rattle.printing.proofs.sections.Given as goal
 
 abbrev pub invariant-loop-i : goal.invariant-loop-i
-invariant-loop-i l = SectionsPut l.sheet l.table l.plain l.fn.count l.i l.fn.at l.initial.out l.out l.end
+invariant-loop-i l = SectionsPut l.source l.fn.count l.i l.fn.at l.initial.out l.out l.end

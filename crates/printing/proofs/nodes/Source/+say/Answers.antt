@@ -10,9 +10,9 @@ use Rattle.node.specs.declared.Node.TheVariants.{Front}
 use Rattle.node.specs.Decoding.{node_at}
 use Rattle.printing.proofs.Tags.{not-front, not_pair, not-list_case, not-truth_case, not-split, not-add, not-each, tail_other}
 use Rattle.node.specs.Kinds.{row}
-use Rattle.printing.proofs.nodes.+say.Goals as goal
-use Rattle.printing.proofs.nodes.+say.Goals.{list_rest-In-Front}
-use Rattle.printing.proofs.nodes.+say.Goals.{say-After-record_at-node}
+use Rattle.printing.proofs.nodes.Source.+say.Goals as goal
+use Rattle.printing.proofs.nodes.Source.+say.Goals.{list_rest-In-Front}
+use Rattle.printing.proofs.nodes.Source.+say.Goals.{say-After-record_at-node}
 
 -- ADD
 pub add-returns-in_default : goal.add-returns-in_default
@@ -29,8 +29,8 @@ add-returns t c =
     add_tells c.requires c.in-Add.is (rw c.from.ensures at c.decimal-end.ensures) c.bytes-end.ensures c.say.ensures
 
 -- BODY
-pub body-bounds-plain-n : goal.body-bounds-plain-n
-body-bounds-plain-n t c = omega (arith, ready_few c.requires)
+pub body-bounds-self-n : goal.body-bounds-self-n
+body-bounds-self-n t c = omega (arith, ready_few c.requires)
 
 pub body-say-requires : goal.body-say-requires
 body-say-requires t c = (omega (arith, c.decreases), c.requires)
@@ -142,7 +142,8 @@ list_case-returns t c =
 
 -- LIST_REST
 -- WHAT IS KNOWN THERE: the node of the record, where it is a front
-list_rest-is_front : (t : ℕ) (c : list_rest-In-Front t) → node_at c.args.sheet.now (get_or c.args.table.now c.args.n 0) ≡ Front c.in-Front.first c.in-Front.rest
+list_rest-is_front : (t : ℕ) (c : list_rest-In-Front t) →
+    node_at c.args.self.now.sheet.now (get_or c.args.self.now.table c.args.n 0) ≡ Front c.in-Front.first c.in-Front.rest
 list_rest-is_front t c = sym c.record_at-node.ensures ∙ c.in-Front.is
 
 pub list_rest-say-end-requires : goal.list_rest-say-end-requires
@@ -198,7 +199,7 @@ pair-returns t c =
 -- SAY
 -- WHAT IS KNOWN THERE: the node is one of its kind
 say-standing : (t : ℕ) (c : say-After-record_at-node t) {kind : ℕ} → (row c.record_at-node.result).kind ≡ kind →
-    Standing c.args.sheet.now c.args.table.now c.args.plain.now c.args.n c.args.scope c.record_at-node.result kind
+    Standing c.args.self.now c.args.n c.args.scope c.record_at-node.result kind
 say-standing t c e = record { ready = c.requires; is = sym c.record_at-node.ensures; of_kind = e }
 
 pub say-front-requires : goal.say-front-requires
@@ -354,8 +355,8 @@ each-overflow_add-inner t c = omega (arith, ready_bounded c.requires.ready)
 pub each-overflow_add-none : goal.each-overflow_add-none
 each-overflow_add-none t c = omega (arith, ready_bounded c.requires.ready)
 
-pub front-bounds-plain-n : goal.front-bounds-plain-n
-front-bounds-plain-n t c = omega (arith, ready_few c.requires.ready)
+pub front-bounds-self-n : goal.front-bounds-self-n
+front-bounds-self-n t c = omega (arith, ready_few c.requires.ready)
 
 pub front-overflow_add-inner : goal.front-overflow_add-inner
 front-overflow_add-inner t c = omega (arith, ready_bounded c.requires.ready)
@@ -369,29 +370,29 @@ list_case-overflow_add-under t c = omega (arith, ready_bounded c.requires.ready)
 pub list_case-overflow_add-wide : goal.list_case-overflow_add-wide
 list_case-overflow_add-wide t c = omega (arith, ready_bounded c.requires.ready)
 
-pub list_rest-offset_bounds-table-n : goal.list_rest-offset_bounds-table-n
-list_rest-offset_bounds-table-n t c = omega (arith, ready_few c.requires.ready)
+pub list_rest-offset_bounds-self-n : goal.list_rest-offset_bounds-self-n
+list_rest-offset_bounds-self-n t c = omega (arith, ready_few c.requires.ready)
 
-pub list_rest-bounds-table-n : goal.list_rest-bounds-table-n
-list_rest-bounds-table-n t c = omega (arith, ready_few c.requires.ready)
+pub list_rest-bounds-self-n : goal.list_rest-bounds-self-n
+list_rest-bounds-self-n t c = omega (arith, ready_few c.requires.ready)
 
 pub list_rest-overflow_add-inner : goal.list_rest-overflow_add-inner
 list_rest-overflow_add-inner t c = omega (arith, ready_bounded c.requires.ready)
 
-pub pair-bounds-plain-n : goal.pair-bounds-plain-n
-pair-bounds-plain-n t c = omega (arith, ready_few c.requires.ready)
+pub pair-bounds-self-n : goal.pair-bounds-self-n
+pair-bounds-self-n t c = omega (arith, ready_few c.requires.ready)
 
 pub pair-overflow_add-inner : goal.pair-overflow_add-inner
 pair-overflow_add-inner t c = omega (arith, ready_bounded c.requires.ready)
 
-pub say-offset_bounds-table-n : goal.say-offset_bounds-table-n
-say-offset_bounds-table-n t c = omega (arith, ready_few c.requires)
+pub say-offset_bounds-self-n : goal.say-offset_bounds-self-n
+say-offset_bounds-self-n t c = omega (arith, ready_few c.requires)
 
-pub say-bounds-table-n : goal.say-bounds-table-n
-say-bounds-table-n t c = omega (arith, ready_few c.requires)
+pub say-bounds-self-n : goal.say-bounds-self-n
+say-bounds-self-n t c = omega (arith, ready_few c.requires)
 
-pub split-bounds-plain-n : goal.split-bounds-plain-n
-split-bounds-plain-n t c = omega (arith, ready_few c.requires.ready)
+pub split-bounds-self-n : goal.split-bounds-self-n
+split-bounds-self-n t c = omega (arith, ready_few c.requires.ready)
 
 pub split-overflow_add-under : goal.split-overflow_add-under
 split-overflow_add-under t c = omega (arith, ready_bounded c.requires.ready)

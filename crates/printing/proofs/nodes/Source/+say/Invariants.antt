@@ -4,7 +4,7 @@
 -- defaults below a case.
 -- Assumes nothing.
 use Prim.Native.Nat.{◌+◌, ◌-◌, ◌*◌}
-use Rattle.printing.proofs.nodes.+say.Given as goal
+use Rattle.printing.proofs.nodes.Source.+say.Given as goal
 
 abbrev pub decreases-add : goal.decreases-add
 decreases-add l = 4 * (200 - l.n)
