@@ -6,6 +6,7 @@ ghost use Rattle.rules.specs.Answer.{get_answer, put_answer};
 ghost use Rattle.report.specs.Writing.{Wrote, Front};
 ghost use Rattle.job.specs.Line.{job_line, reply_line, Printed, BuffersAfter};
 ghost use Rattle.calls.specs.CallLaws.{Within};
+ghost use Rattle.calls.specs.Reply.{told};
 
 use calls::Reply;
 use inputs::{INPUT, Job, plan_of, sheet_of, view_of};
@@ -15,12 +16,12 @@ pub const LINE: usize = 8_204;
 
 // The line of a call's reply, whose bytes are at the front of `out`.
 fn reply_line(reply: Reply, out: &[u8], text: &mut [u8]) -> usize
-    requires { Within reply out.now }
-    ensures { Wrote (reply_line reply out.now) 0 text.old text.new result }
+    requires { Within (told reply) out.now }
+    ensures { Wrote (reply_line (told reply) out.now) 0 text.old text.new result }
 {
     match reply {
-        Reply::Refused(c) => report::refusal(text, 0, usize::from(c)),
-        Reply::Done { len, steps } => report::success(text, 0, steps, &out[..len]),
+        Err(e) => report::refusal(text, 0, usize::from(e.number())),
+        Ok(done) => report::success(text, 0, done.steps, &out[..done.len]),
     }
 }
 
@@ -53,9 +54,10 @@ fn put_line(
     ensures { Printed (put_answer sheet.now plan.now view.now allowance put_output scratch_size) result text.old
         text.new out.old out.new scratch.old scratch.new }
 {
-    let answer = calls::put(sheet, plan, view, allowance, out, scratch);
-    let reply = answer.reply;
-    reply_line(reply, out, text)
+    match calls::put(sheet, plan, view, allowance, out, scratch) {
+        Ok(put) => reply_line(Ok(put.done), out, text),
+        Err(e) => reply_line(Err(e), out, text),
+    }
 }
 
 /// The line that the program prints for an input, at the front of `text`; and how long it is.

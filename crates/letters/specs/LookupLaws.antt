@@ -1,9 +1,9 @@
 -- Laws of the lines of letters L and V: how long they are, and what shows them of the code.
-use Rattle.std.specs.Prelude.{Bool, true, false, cond, ◌≡◌, refl, ℕ, ◌+◌, ◌*◌, ◌≤◌, ◌<◌, leb, ltb, eqb, length, get_or, drop}
+use Rattle.std.specs.Prelude.{Bool, true, false, cond, ◌≡◌, refl, ℕ, ◌+◌, ◌*◌, ◌≤◌, ◌<◌, leb, ltb, length, get_or, drop}
 use Rattle.std.proofs.Math.Path.{sym, ap}
 use Rattle.std.proofs.Common.{◌∙◌, arith, length-append, length-take, length-drop}
 use mathlib.Core.List.{List, [], ◌∷◌, map}
-use borrow.Author.Tests.{le-leb, lt-leb, eq-eqb, ne_eqb, leb-true}
+use borrow.Author.Tests.{le-leb, lt-leb, leb-true}
 use Rattle.report.specs.Text.{hex_of, words, decimal_of, refusal_line, ok_line}
 use Rattle.report.proofs.TextLaws.{Below, none, each, hex_length, numbers_length, ok_length, refusal_length}
 use Rattle.starts.specs.declared.Starts.{Starts}

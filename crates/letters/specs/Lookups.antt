@@ -1,5 +1,5 @@
 -- The starts of a plan's values (letter L of `tools`), and one value by its number (letter V).
-use Rattle.std.specs.Prelude.{cond, List, [], ◌∷◌, map, ℕ, ◌+◌, ◌*◌, leb, eqb, length, get_or, drop}
+use Rattle.std.specs.Prelude.{cond, List, [], ◌∷◌, map, ℕ, ◌+◌, ◌*◌, leb, length, get_or, drop}
 use Rattle.report.specs.Text.{hex_of, decimal_of, refusal_line, ok_line}
 use Rattle.value.specs.Result.{Result, ok, refusal}
 use Rattle.starts.specs.declared.Starts.{Starts}

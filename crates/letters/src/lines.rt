@@ -1,5 +1,5 @@
 //! Lines that letters share: of one word, of a refusal, and of what a tool made.
-ghost use Rattle.std.specs.Prelude.{List, [], ◌∷◌, ℕ};
+ghost use Rattle.std.specs.Prelude.{false, List, [], ◌∷◌, ℕ};
 ghost use Rattle.refusal.specs.Refusal.{number_of};
 ghost use Rattle.report.specs.Text.{hex_of, decimal_of, ok_line, refusal_line};
 ghost use Rattle.report.specs.Writing.{Wrote};

@@ -17,8 +17,10 @@ pub fn numbered_line(reply: Numbered, out: &[u8], text: &mut [u8]) -> usize
             let bytes = inputs::part_at(out, 0, n);
             line(&Hex { bytes }, text)
         }
-        Err(Fault::Refused(e)) => refused(e, text),
-        Err(Fault::Twice(n)) => words::node_line(text, Refusal::NodeTwice.number(), n),
+        Err(fault) => match fault {
+            Fault::Refused(e) => refused(e, text),
+            Fault::Twice(n) => words::node_line(text, Refusal::NodeTwice.number(), n),
+        },
     }
 }
 
