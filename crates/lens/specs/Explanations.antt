@@ -31,6 +31,11 @@ nodes_over w c = handed (min w.depth (min (length w.chain) (length c))) w.chain 
 abbrev pub WhyHandedOut : WhyReply → (r : ℕ) → (c c' : List ℕ) → Type 0
 WhyHandedOut w r c c' = WhyPacked w.refusal w.depth w.first r × (c' ≡ nodes_over w c)
 
+-- no node
+pub nodes_none : (w : WhyReply) → w.depth ≡ 0 → (c : List ℕ) → c ≡ nodes_over w c
+unfolding handed
+nodes_none w e c = let m : min w.depth (min (length w.chain) (length c)) ≡ 0 = omega (arith, e) in rw m refl
+
 told_over : (e : Explanation) → Proper e → (c : List ℕ) → handed (told_as e).depth (told_as e).chain c ≡ chain_over e c
 unfolding told_as unmet chain_over handed
 told_over success p c = refl

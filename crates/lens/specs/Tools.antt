@@ -59,7 +59,9 @@ made_told (Err x) (ok bs) e = absurd (cc)
 made_told (Err x) (Result.refusal c) e = (cc, refl)
 
 pub made_packed : {a : Result (List ℕ)} {q : Made} {r : ℕ} {o o' : List ℕ} → Makes a q o o' → length_of q < 65536 → MadeTold q r → MadePacked a r o o'
-made_packed {a} {q} m h t = record { answer = rw (made_told q a m.answer) at (tells_whole h t); output = m.output }
+made_packed {a} {q} m h t =
+    let (e, f) = made_told q a m.answer in
+    record { answer = rw (e, f) at (tells_whole h t); output = m.output }
 
 -- what was made is no longer than any success of the answer
 pub made_inside : (k : ℕ) {a : Result (List ℕ)} {q : Made} {o o' : List ℕ} → Makes a q o o' → ((u : List ℕ) → a ≡ ok u → length u ≤ k) → length_of q ≤ k

@@ -7,8 +7,8 @@ use Rattle.lens.proofs.answers.hand_put.Goals as goal
 pub pack-requires : goal.pack-requires
 pack-requires c = rw c.in-Err.is at c.requires.0
 
-pub pack-in-Ok-requires : goal.pack-in-Ok-requires
-pack-in-Ok-requires c = rw c.in-Ok.is at c.requires.0
+pub pack-requires-in-Ok : goal.pack-requires-in-Ok
+pack-requires-in-Ok c = rw c.in-Ok.is at c.requires.0
 
 pub returns-in-Err : goal.returns-in-Err
 unfolding no_starts

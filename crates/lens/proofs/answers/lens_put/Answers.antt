@@ -6,8 +6,8 @@ use Rattle.lens.proofs.answers.lens_put.Goals as goal
 pub pack-requires : goal.pack-requires
 pack-requires c = small_put _ _ _ _ _ _ c.in-Err.ensures.put_answered.call
 
-pub pack-in-Ok-requires : goal.pack-in-Ok-requires
-pack-in-Ok-requires c = small_put _ _ _ _ _ _ c.in-Ok.ensures.put_answered.call
+pub pack-requires-in-Ok : goal.pack-requires-in-Ok
+pack-requires-in-Ok c = small_put _ _ _ _ _ _ c.in-Ok.ensures.put_answered.call
 
 pub returns-in-Err : goal.returns-in-Err
 returns-in-Err c =
