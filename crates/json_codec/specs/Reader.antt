@@ -1,5 +1,6 @@
 -- The reader's contracts: what a reading function answers, and what then holds of the text and of the bytes that it wrote.
-use Rattle.std.specs.Prelude.{◌≡◌, Bool, true, false, not, cond, nat_eq, nat_lt, Some, None, ◌&&◌, ℕ, zero, suc, ◌+◌, ◌-◌, ◌*◌, ◌/◌, ◌%◌, ◌≤◌, ◌<◌, eqb, leb, drop}
+use Rattle.std.specs.Prelude.{◌≡◌, Bool, true, false, not, cond, nat_eq, nat_lt, Some, None, ◌&&◌}
+use Rattle.std.specs.Prelude.{ℕ, zero, suc, ◌+◌, ◌-◌, ◌*◌, ◌/◌, ◌%◌, ◌≤◌, ◌<◌, eqb, leb, drop}
 use Rattle.std.proofs.Math.Path.{refl, ap}
 use Rattle.std.proofs.Common.{sym, ◌∙◌, arith, add-one, lt-ltb, drop-drop, get_or-drop, eq-eqb, ne_eqb, le-leb, length-drop, drop_of_length-le, drop-cons}
 use mathlib.Core.List.{List, [], ◌∷◌}
@@ -318,7 +319,8 @@ module _ {s : List ℕ} {at first : ℕ} {b₀ b : List ℕ} {i n : ℕ} (c : Co
   pub ended_there : length s ≤ i → NoDigit (drop i s)
   ended_there h = rw (drop_of_length-le s h) n_end
 
-  pub counted_all : length s ≤ i → {put p : ℕ} {b' : List ℕ} → Wrote (encode (numeral n)) put b b' p → Gives (digits first) encode s at put b₀ b' (done (length s) p)
+  pub counted_all : length s ≤ i → {put p : ℕ} {b' : List ℕ}
+      → Wrote (encode (numeral n)) put b b' p → Gives (digits first) encode s at put b₀ b' (done (length s) p)
   counted_all h q = let e : i ≡ length s = omega (arith, c.on.inside) in rw (← e) (counted (ended_there h) q)
 
   module _ (h : i < length s) where

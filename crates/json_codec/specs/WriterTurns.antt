@@ -86,7 +86,8 @@ module _ {v : List ℕ} {at : ℕ} where
         go : (x : Value) (l : Values) → x ≡ list l → Puts (json_of x) (depth x) levels (at + size x) put b b (Err JsonDepth)
         go x l e = rw e (p_deep refl (omega arith) refl)
 
-    pub value_list : (levels put : ℕ) → (levels ≡ 0 → ⊥) → {b b' : List ℕ} {r : Answer} → WritesList v at (levels - 1) put b b' r → Writes v at levels put b b' r
+    pub value_list : (levels put : ℕ) → (levels ≡ 0 → ⊥) → {b b' : List ℕ} {r : Answer}
+        → WritesList v at (levels - 1) put b b' r → Writes v at levels put b b' r
     unfolding depth size
     value_list levels put z {b} {b'} {r} w =
         record { puts = λ x more h. let (l, e) = as_list h (kind_at h) refl in rw e (go l (w.puts l more (list_held (rw e at h)))) }

@@ -30,7 +30,8 @@ below_more h none = none
 below_more h (each {a} p r) = each {a = a} (omega arith) (below_more h r)
 
 -- the starts of a plan of at most 8,192 bytes: at most 16 of 4 digits, each behind a space
-pub starts-length : (sheet plan : List ℕ) → length plan ≤ input_limit → {s : Starts} → load_of sheet plan ≡ ok s → length (words (map decimal_of (numbers s))) ≤ 80
+pub starts-length : (sheet plan : List ℕ) → length plan ≤ input_limit → {s : Starts} → load_of sheet plan ≡ ok s
+    → length (words (map decimal_of (numbers s))) ≤ 80
 unfolding loaded_in
 starts-length sheet plan h {s} e =
     let m = numbers_length 3 (below_more {m = length plan} (omega arith) (go (load_small sheet plan) e)) in

@@ -55,7 +55,7 @@ use Rattle.refusal.specs.declared.Refusal.TheVariants.{
   TextFull,
 }
 use Rattle.refusal.specs.Refusal.{number_of, Decodes}
-use Rattle.outcome.specs.Outcome.{done_as, is_refusal, code_of, Numbered, Refuses, done_there}
+use Rattle.outcome.specs.Outcome.{done_as, is_refusal, code_of, Numbered, Refuses, done_there, len_small, start_small}
 
 -- no refusal has the number 0, and each is a byte
 pub number_fits : (r : Refusal) → (1 ≤ number_of r) × (number_of r < 256)
@@ -138,3 +138,6 @@ read_refusal a (Err x) h e d = go (ltb 0 (a % 256)) refl
     go : (b : Bool) → ltb 0 (a % 256) ≡ b → ltb 0 (a % 256) ≡ false
     go false t = t
     go true t = let p = h t in absurd (d.1 p.0 (p.1 ∙ sym e))
+
+-- what an answer with one node more of its chain is made by
+pub ruleset deeper_laws = (len_small, start_small, deeper_numbered)

@@ -114,7 +114,7 @@ impl Answer {
     }
 
     /// A refusal with one node more in its chain; of a success, one that took no step.
-    #[tactic(auto, using(crate::specs::Outcome::len_small, crate::specs::Outcome::start_small, crate::proofs::Numbers::deeper_numbered), unfolding(crate::specs::Outcome::deeper_as, crate::specs::Outcome::code_of))]
+    #[tactic(auto, using(crate::proofs::Numbers::deeper_laws), unfolding(crate::specs::Outcome::deeper_as, crate::specs::Outcome::code_of))]
     pub fn deeper(self) -> Answer
         ensures { result ≡ deeper_as self }
     {

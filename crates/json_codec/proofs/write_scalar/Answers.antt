@@ -28,7 +28,8 @@ bounds-v-at-in-4-2 c = omega (arith, number_there c.requires c.in-4.is)
 
 pub returns-in-4 : goal.returns-in-4
 returns-in-4 c levels =
-    let e : c.from.result ≡ 256 * get_or c.args.v.now (c.args.at + 1) 0 + get_or c.args.v.now (c.args.at + 2) 0 = omega (arith, c.from.ensures, c.from_be_bytes-n.ensures) in
+    let e : c.from.result ≡ 256 * get_or c.args.v.now (c.args.at + 1) 0 + get_or c.args.v.now (c.args.at + 2) 0
+    = omega (arith, c.from.ensures, c.from_be_bytes-n.ensures) in
     put_number c.args.v.now c.args.at levels c.args.put c.in-4.is (wrote_text c.decimal.ensures (ap decimal_of e))
 
 pub bounds-v-at-in_default : goal.bounds-v-at-in_default
