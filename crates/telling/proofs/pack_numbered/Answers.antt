@@ -15,7 +15,8 @@ returns-in-Ok c = rw c.in-Ok.is (numbered_done _ c.low.ensures c.pack_told.ensur
 
 pub returns-in-Err-Refused : goal.returns-in-Err-Refused
 returns-in-Err-Refused c =
-    rw (of_fault c.in-Err-Refused.is (rw c.in-Err-Refused.is at c.in-Err-Refused.field-0-is)) (numbered_refused _ (rw c.number.ensures at c.pack_told-in-Err-Refused.ensures))
+    rw (of_fault c.in-Err-Refused.is (rw c.in-Err-Refused.is at c.in-Err-Refused.field-0-is))
+    (numbered_refused _ (rw c.number.ensures at c.pack_told-in-Err-Refused.ensures))
 
 pub returns-in-Err-Twice : goal.returns-in-Err-Twice
 returns-in-Err-Twice c =
