@@ -1,10 +1,8 @@
 -- What the calls for other languages give in numbers that the caller lends: starts, with a count of them in the answer, and bits.
-use Rattle.std.specs.Prelude.{◌≡◌, List, ◌++◌, ℕ, ◌+◌, ◌*◌, ◌%◌, ◌≤◌, ◌<◌, min, eqb, length, drop}
+use Rattle.std.specs.Prelude.{◌≡◌, List, ◌++◌, ℕ, ◌+◌, ◌*◌, ◌%◌, ◌≤◌, min, length, drop}
 use Rattle.std.proofs.Math.Path.{ap}
 use Rattle.std.proofs.Common.{refl, ◌∙◌, arith}
-use Rattle.std.proofs.Math.Bool.{cond}
 use Rattle.starts.specs.declared.Starts.{Starts}
-use Rattle.value.specs.Result
 use Rattle.value.specs.Result.{Result}
 use Rattle.starts.specs.Starts.{no_starts, load_of, starts_in, numbers}
 use Rattle.starts.proofs.StartsLaws.{load_few}
@@ -15,7 +13,7 @@ use Rattle.calls.specs.Calls.{reply, written, cleared, new_starts, new_written, 
 use Rattle.calls.specs.Small.{Small, small_put}
 use Rattle.packing.specs.Numbers.{Packs}
 use Rattle.packing.specs.HandedOut.{handed, handed_over, handed_front}
-use Rattle.lens.specs.Packing.{packed, unpacked, count_of, refusal_of, ReplyPacked, packed_back, packed_counted}
+use Rattle.lens.specs.Packing.{packed, unpacked, count_of, ReplyPacked, packed_back, packed_counted}
 
 -- the starts at the front of the caller's numbers t; those behind them do not change, and where there is no start none does
 unfoldable pub handed_out : Starts → List ℕ → List ℕ

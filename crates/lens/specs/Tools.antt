@@ -1,8 +1,7 @@
 -- What the tools answer, for other languages: one number, the low 8 bits the refusal (0: success), the next 16 what is told beside it.
 use Rattle.std.specs.Prelude.{◌≡◌, refl, Bool, List, ℕ, ◌≤◌, ◌<◌, length}
-use Rattle.std.proofs.Common.{sym, ◌∙◌, arith}
+use Rattle.std.proofs.Common.{arith}
 use Rattle.value.specs.Result.{Result, ok}
-use Rattle.value.specs.Result
 use Rattle.value.specs.Result.{map_result}
 use Rattle.value.specs.Numbered.{numbered}
 use Rattle.std.specs.Prelude.{Ok, Err}
