@@ -3,7 +3,7 @@ use Rattle.std.specs.Prelude.{◌≡◌, refl, Bool, true, false, cond, ◌&&◌
 use Rattle.std.proofs.Math.Path.{sym}
 use Rattle.std.proofs.Common.{ap, ◌∙◌, arith}
 use borrow.Author.Tests.{le-leb, lt-leb, ltb-true}
-use Rattle.value.specs.Result.{Result, ok, refusal, and_then, unless}
+use Rattle.value.specs.Result.{Result, ok, refusal, and_then}
 use Rattle.value.specs.Value.{Value, encode}
 use Rattle.shapes.specs.Parts.{same_bytes}
 use Rattle.value.specs.Reading.{read_plan, read_view}
@@ -13,11 +13,9 @@ use Rattle.rules.specs.Outcome.{Out, done, refused, reading, map_out}
 use Rattle.rules.specs.Counting.{Env}
 use Rattle.rules.specs.Answer.{get_walk, get_bytes}
 use Rattle.rules.specs.Nodes.{everywhere, among_all}
-use Rattle.rules.proofs.Laws.Refusals.{table, Lists, l_done, l_refused, lists_get_bytes}
+use Rattle.rules.proofs.Laws.Refusals.{table, Lists, l_refused, lists_get_bytes}
 use Rattle.venue.specs.Accepts.{kept, or_code, result, judged_of, accepts_of}
-use Rattle.accepts.specs.declared.Verdict.{Verdict}
-use Rattle.accepts.specs.declared.Verdict.TheVariants.{Yes, No, Refused}
-use Rattle.accepts.specs.Accepts.{yes_no, verdict, cleared, Accepted}
+use Rattle.accepts.specs.Accepts.{Accepted}
 use Rattle.report.specs.Text.{words, refusal_line, ok_line}
 use Rattle.report.proofs.TextLaws.{refusal_length}
 use Rattle.report.specs.Writing.{Wrote, wrote_text}
@@ -25,7 +23,7 @@ use Rattle.inputs.specs.declared.fields.Fields.{Fields}
 use Rattle.std.specs.Prelude.{Option, Some, None}
 use Rattle.inputs.specs.Format.{two, part, fields_of, sheet_of, plan_of, view_of}
 use Rattle.letters.specs.Small.{Small, no, small_number, small_unless, small_then, small_sheet, small_view, small_plan}
-use Rattle.walking.specs.Endings.{Ending, says, yes_line, judges, checks_by, checks, output_after, scratch_after}
+use Rattle.walking.specs.Endings.{says, yes_line, judges, checks_by, checks, output_after, scratch_after}
 use Rattle.walking.specs.ExplanationLaws.{Explained}
 
 -- HOW LONG IT IS
@@ -91,29 +89,18 @@ checks_output bs (Some f) o = go (leb (2 + two (view_of bs f) 0) (length (view_o
 -- WHAT SHOWS IT OF THE CODE
 
 -- the line of a verdict
-unfoldable pub verdict_line : Verdict → List ℕ
-verdict_line Yes = ok_line ((0x79 ∷ 0x65 ∷ 0x73 ∷ []) ∷ [])
-verdict_line No = ok_line ((0x6E ∷ 0x6F ∷ []) ∷ [])
-verdict_line (Refused c) = refusal_line c
-
-module _ {v : Verdict} where
-  pub verdict_yes : v ≡ Yes → 0x6F ∷ 0x6B ∷ 0x20 ∷ 0x79 ∷ 0x65 ∷ 0x73 ∷ 0x0A ∷ [] ≡ verdict_line v
-  unfolding verdict_line ok_line words
+module _ {v : Result Bool} where
+  pub verdict_yes : v ≡ ok true → 0x6F ∷ 0x6B ∷ 0x20 ∷ 0x79 ∷ 0x65 ∷ 0x73 ∷ 0x0A ∷ [] ≡ yes_line v
+  unfolding yes_line ok_line words
   verdict_yes e = sym (rw e)
 
-  pub verdict_no : v ≡ No → 0x6F ∷ 0x6B ∷ 0x20 ∷ 0x6E ∷ 0x6F ∷ 0x0A ∷ [] ≡ verdict_line v
-  unfolding verdict_line ok_line words
+  pub verdict_no : v ≡ ok false → 0x6F ∷ 0x6B ∷ 0x20 ∷ 0x6E ∷ 0x6F ∷ 0x0A ∷ [] ≡ yes_line v
+  unfolding yes_line ok_line words
   verdict_no e = sym (rw e)
 
-  pub verdict_refused : {c : ℕ} → v ≡ Refused c → refusal_line c ≡ verdict_line v
-  unfolding verdict_line
+  pub verdict_refused : {c : ℕ} → v ≡ refusal c → refusal_line c ≡ yes_line v
+  unfolding yes_line
   verdict_refused e = sym (rw e)
-
-verdict_is : (a : Result Bool) → verdict_line (verdict a) ≡ yes_line a
-unfolding verdict_line yes_line verdict yes_no
-verdict_is (ok true) = refl
-verdict_is (ok false) = refl
-verdict_is (refusal c) = refl
 
 module _ (bs : List ℕ) {k : Option Fields} (e : k ≡ fields_of bs) where
   pub check_cut : {s : List ℕ} {r : ℕ} {t t' : List ℕ} → k ≡ None → Wrote (refusal_line 60) 0 t t' r → Explained (checks bs (fields_of bs)) r t t' s s
@@ -131,10 +118,10 @@ module _ (bs : List ℕ) {k : Option Fields} (e : k ≡ fields_of bs) where
       check_short h w = rw (its_fields, ← en, lt-leb (2 + n) (length rest) h) (w, refl)
 
       pub check_whole : 2 + n ≤ length rest → {sheet plan list new : List ℕ} → sheet ≡ sheet_of bs f → plan ≡ plan_of bs f → list ≡ part rest 2 n
-          → new ≡ drop (2 + n) rest → {m : ℕ} → m ≡ scratch_size → {v : Verdict} {s' : List ℕ} → Accepted (accepts_of sheet plan list new f.allowance m) v s s'
-          → Wrote (verdict_line v) 0 t t' r → Explained (checks bs (fields_of bs)) r t t' s s'
+          → new ≡ drop (2 + n) rest → {m : ℕ} → m ≡ scratch_size → {v : Result Bool} {s' : List ℕ} → Accepted (accepts_of sheet plan list new f.allowance m) v s s'
+          → Wrote (yes_line v) 0 t t' r → Explained (checks bs (fields_of bs)) r t t' s s'
       unfolding checks_by scratch_after
       check_whole h {sheet} {plan} {list} {new} es ep el ew {m} em {v} {s'} x w =
           let a = accepts_of sheet plan list new f.allowance m in
-          let y : Explained (judges a) r t t' s s' = (wrote_text w (ap verdict_line x.answer ∙ verdict_is a), x.scratch) in
+          let y : Explained (judges a) r t t' s s' = (wrote_text w (ap yes_line x.answer), x.scratch) in
           rw (its_fields, ← en, le-leb (2 + n) (length rest) h, ← es, ← ep, ← el, ← ew, ← em) y

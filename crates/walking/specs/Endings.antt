@@ -3,7 +3,6 @@ use Rattle.std.specs.Prelude.{◌≡◌, Bool, true, false, cond, List, [], ◌�
 use Rattle.rules.specs.Numbers.{scratch_size, put_output}
 use Rattle.value.specs.Result.{Result, ok, refusal}
 use Rattle.rules.specs.Answer.{Answer, success, put_answer}
-use Rattle.rules.specs.Answer as Answer
 use Rattle.rules.specs.Explain.Calls.{Explanation, why_get, why_put}
 use Rattle.calls.specs.Reply.{Reply, Done, Refused}
 use Rattle.calls.specs.Calls.{written, cleared, new_starts, new_written}

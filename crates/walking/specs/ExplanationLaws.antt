@@ -8,7 +8,7 @@ use Rattle.rules.specs.Explain.{Cause}
 use Rattle.rules.specs.Explain.Calls.{Explanation, success, before, walked, why_get, why_put}
 use Rattle.rules.proofs.Explain.Nodes.{Inside, First, nobody, writer}
 use Rattle.starts.specs.Starts.{firsts}
-use Rattle.explaining.specs.declared.Explanation.{Explanation as WhyReply}
+use Rattle.explaining.specs.Explain.{WhyReply}
 use Rattle.explaining.specs.Explain.{unmet, first_number, told_as, WhyAnswered}
 use Rattle.explaining.specs.Explain.Laws.{Proper, why_get_proper, why_put_proper}
 use Rattle.report.specs.Text.{words, refusal_line}

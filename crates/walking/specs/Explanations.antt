@@ -2,7 +2,7 @@
 use Rattle.std.proofs.Math.Option.{Option, none, some}
 use Rattle.std.specs.Prelude.{List, [], ◌∷◌, ℕ, take}
 use Rattle.rules.specs.Explain.Calls.{Explanation, success, before, walked}
-use Rattle.explaining.specs.declared.Explanation.{Explanation as WhyReply}
+use Rattle.explaining.specs.Explain.{WhyReply}
 use Rattle.report.specs.Text.{decimal_of, refusal_line, ok_line}
 use Rattle.words.specs.Answers.{no_line, met_words, told_line}
 

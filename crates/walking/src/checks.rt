@@ -2,19 +2,23 @@
 ghost use Rattle.std.specs.Prelude.{◌≡◌};
 ghost use Rattle.inputs.specs.Format.{fields_of};
 ghost use Rattle.report.specs.Writing.{Wrote};
-ghost use Rattle.walking.specs.Endings.{scratch_after, checks};
-ghost use Rattle.walking.specs.CheckLaws.{verdict_line};
+ghost use Rattle.value.specs.Numbered.{numbered};
+ghost use Rattle.walking.specs.Endings.{scratch_after, checks, yes_line};
 
-use accepts::Verdict;
+use refusal::Refusal;
 
-// The line of a verdict.
-fn verdict_line(verdict: Verdict, text: &mut [u8]) -> usize
-    ensures { Wrote (verdict_line verdict) 0 text.old text.new result }
+// The line of a verdict: whether the new plan stands, or why there is none.
+fn verdict_line(verdict: Result<bool, Refusal>, text: &mut [u8]) -> usize
+    ensures { Wrote (yes_line (numbered verdict)) 0 text.old text.new result }
 {
     match verdict {
-        Verdict::Yes => report::bytes(text, 0, b"ok yes\n"),
-        Verdict::No => report::bytes(text, 0, b"ok no\n"),
-        Verdict::Refused(c) => report::refusal(text, 0, usize::from(c)),
+        Ok(stands) => {
+            if stands {
+                return report::bytes(text, 0, b"ok yes\n");
+            }
+            report::bytes(text, 0, b"ok no\n")
+        }
+        Err(e) => report::refusal(text, 0, usize::from(e.number())),
     }
 }
 

@@ -2,18 +2,23 @@
 ghost use Rattle.std.specs.Prelude.{◌≡◌, drop};
 ghost use Rattle.report.specs.Writing.{Wrote};
 ghost use Rattle.walking.specs.Endings.{scratch_after, whys};
+ghost use Rattle.explaining.specs.Explain.{why_reply};
 ghost use Rattle.walking.specs.Explanations.{told};
 
-use explaining::Explanation;
+use explaining::Why;
 use inputs::Job;
 
-// The line of an explanation.
-fn told_line(why: Explanation, text: &mut [u8]) -> usize
-    ensures { Wrote (told why) 0 text.old text.new result }
+// The line of an explanation; of none, that the job is not refused.
+fn told_line(why: Option<Why>, text: &mut [u8]) -> usize
+    ensures { Wrote (told (why_reply why)) 0 text.old text.new result }
 {
-    let chain = why.chain;
-    let nodes = inputs::part_at(&chain, 0, usize::from(why.depth));
-    words::told_line(why.refusal, nodes, why.first, text)
+    match why {
+        None => words::told_line(0, &[], 0, text),
+        Some(w) => {
+            let nodes = inputs::part_at(&w.chain, 0, usize::from(w.depth));
+            words::told_line(w.refusal.number(), nodes, w.first, text)
+        }
+    }
 }
 
 /// The line of letter Y, and the call that it takes.

@@ -1,12 +1,14 @@
 //! A put, with the starts of its new plan's values (letter S), or with which variables took a view (letter W).
 ghost use Rattle.std.specs.Prelude.{◌≤◌};
 ghost use Rattle.calls.specs.CallLaws.{Within};
+ghost use Rattle.calls.specs.Reply.{put_told};
 ghost use Rattle.inputs.specs.Format.{fields_of};
 ghost use Rattle.report.specs.Text.{words};
 ghost use Rattle.report.specs.Writing.{Wrote};
 ghost use Rattle.walking.specs.Endings.{besides, puts, reply_line, Ended};
 
-use calls::Reply;
+use calls::PutDone;
+use refusal::Refusal;
 use starts::Starts;
 
 // What stands behind a new plan: which variables took a view, or where its values start.
@@ -20,25 +22,19 @@ fn besides_words(text: &mut [u8], at: usize, bits: bool, starts: Starts, written
     words::start_words(text, at, starts)
 }
 
-// The line of a put's reply, whose bytes are at the front of `out`, with what stands behind its new plan.
-fn reply_line(
-    reply: Reply,
-    bits: bool,
-    starts: Starts,
-    written: u16,
-    out: &[u8],
-    text: &mut [u8],
-) -> usize
-    requires { Within reply out.now × (starts.count ≤ 16) }
-    ensures { Wrote (reply_line reply (besides bits starts written) out.now) 0 text.old text.new result }
+// The line of what a put answers, whose bytes are at the front of `out`, with what stands behind its new plan.
+fn reply_line(put: Result<PutDone, Refusal>, bits: bool, out: &[u8], text: &mut [u8]) -> usize
+    requires { Within (put_told put).reply out.now × ((put_told put).starts.count ≤ 16) }
+    ensures { Wrote (reply_line (put_told put).reply (besides bits (put_told put).starts (put_told put).written) out.now) 0
+        text.old text.new result }
 {
-    match reply {
-        Reply::Refused(c) => report::refusal(text, 0, usize::from(c)),
-        Reply::Done { len, steps } => {
+    match put {
+        Err(e) => report::refusal(text, 0, usize::from(e.number())),
+        Ok(put) => {
             let mut end = report::bytes(text, 0, b"ok");
-            end = report::decimal_word(text, end, steps);
-            end = report::hex_word(text, end, &out[..len]);
-            end = besides_words(text, end, bits, starts, written);
+            end = report::decimal_word(text, end, put.done.steps);
+            end = report::hex_word(text, end, &out[..put.done.len]);
+            end = besides_words(text, end, bits, put.starts, put.written);
             report::byte(text, end, b'\n')
         }
     }
@@ -66,7 +62,5 @@ pub fn put_line(
         out,
         scratch,
     );
-    let reply = put.reply;
-    let starts = put.starts;
-    reply_line(reply, bits, starts, put.written, out, text)
+    reply_line(put, bits, out, text)
 }

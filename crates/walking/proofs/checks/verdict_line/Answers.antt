@@ -1,16 +1,17 @@
 -- `verdict_line` meets its contract, case by case. Assumes nothing.
+use Rattle.std.proofs.Common.{ap, ◌∙◌}
+use Rattle.value.specs.Result.{ok}
+use Rattle.value.specs.Numbered.{numbered}
 use Rattle.report.specs.Writing.{wrote_text}
 use Rattle.walking.specs.CheckLaws.{verdict_yes, verdict_no, verdict_refused}
 use Rattle.walking.proofs.checks.verdict_line.Goals as goal
 
-pub returns-in-Yes : goal.returns-in-Yes
-returns-in-Yes c =
-    wrote_text c.bytes.ensures (verdict_yes c.in-Yes.is)
+pub returns-then-stands : goal.returns-then-stands
+returns-then-stands c = wrote_text c.bytes.ensures (verdict_yes (ap numbered c.in-Ok.is ∙ ap ok c.if-stands.true))
 
-pub returns-in-No : goal.returns-in-No
-returns-in-No c =
-    wrote_text c.bytes-in-No.ensures (verdict_no c.in-No.is)
+pub returns-else-stands : goal.returns-else-stands
+returns-else-stands c = wrote_text c.bytes-in-Ok.ensures (verdict_no (ap numbered c.in-Ok.is ∙ ap ok c.if-stands.false))
 
-pub returns-in-Refused : goal.returns-in-Refused
-returns-in-Refused c =
-    wrote_text (rw c.from.ensures at c.refusal.ensures) (verdict_refused c.in-Refused.is)
+pub returns-in-Err : goal.returns-in-Err
+returns-in-Err c =
+    wrote_text (rw (c.from.ensures, c.number.ensures) at c.refusal.ensures) (verdict_refused (ap numbered c.in-Err.is))
