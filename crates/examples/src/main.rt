@@ -12,10 +12,11 @@ mod turns;
 
 ghost use Rattle.std.specs.Prelude.{◌≤◌, length};
 
+use refusal::Refusal;
 use std::fs::File;
 use std::io;
 use std::io::Write;
-use value::Read;
+use value::Fault;
 
 // A word and a number.
 fn labelled(text: &mut [u8], at: usize, label: &[u8], n: usize) -> usize
@@ -25,16 +26,23 @@ fn labelled(text: &mut [u8], at: usize, label: &[u8], n: usize) -> usize
     report::decimal(text, end, n)
 }
 
+// The line of a refusal.
+fn refused(e: Refusal, text: &mut [u8]) -> usize
+    ensures { result ≤ length text.new }
+{
+    report::refusal(text, 0, usize::from(e.number()))
+}
+
 fn value_line(bytes: &[u8], text: &mut [u8]) -> usize
     ensures { result ≤ length text.new }
 {
     match value::read_value(bytes) {
-        Read::Whole(n) => {
+        Ok(n) => {
             let end = labelled(text, 0, b"value of ", n);
             report::byte(text, end, b'\n')
         }
-        Read::Malformed => report::bytes(text, 0, b"malformed\n"),
-        Read::TooLong => report::bytes(text, 0, b"too long\n"),
+        Err(Fault::Malformed) => report::bytes(text, 0, b"malformed\n"),
+        Err(Fault::TooLong) => report::bytes(text, 0, b"too long\n"),
     }
 }
 
@@ -49,10 +57,10 @@ fn plan_line(first: u8, plan: &[u8], text: &mut [u8]) -> usize
     ensures { result ≤ length text.new }
 {
     let k = usize::from(first);
-    let spans = value::read_plan(k, plan);
-    if spans.refusal != 0 {
-        return report::refusal(text, 0, usize::from(spans.refusal));
-    }
+    let spans = match value::read_plan(k, plan) {
+        Ok(spans) => spans,
+        Err(e) => return refused(e, text),
+    };
     let mut end = report::bytes(text, 0, b"plan");
     for i in 0..k.min(16) {
         end = span(text, end, spans.starts[i], spans.lens[i]);
@@ -63,20 +71,19 @@ fn plan_line(first: u8, plan: &[u8], text: &mut [u8]) -> usize
 fn view_line(view: &[u8], text: &mut [u8]) -> usize
     ensures { result ≤ length text.new }
 {
-    let refusal = value::read_view(view);
-    if refusal != 0 {
-        return report::refusal(text, 0, usize::from(refusal));
+    match value::read_view(view) {
+        Ok(()) => report::bytes(text, 0, b"view\n"),
+        Err(e) => refused(e, text),
     }
-    report::bytes(text, 0, b"view\n")
 }
 
 fn sheet_line(bytes: &[u8], text: &mut [u8]) -> usize
     ensures { result ≤ length text.new }
 {
-    let table = sheet::read_sheet(bytes);
-    if table.refusal != 0 {
-        return report::refusal(text, 0, usize::from(table.refusal));
-    }
+    let table = match sheet::read_sheet(bytes) {
+        Ok(table) => table,
+        Err(e) => return refused(e, text),
+    };
     let mut end = labelled(text, 0, b"sheet k ", table.k);
     end = labelled(text, end, b" root ", table.root);
     end = labelled(text, end, b" sections ", table.sections);
