@@ -118,7 +118,8 @@ module _ (bs : List ℕ) {k : Option Fields} (e : k ≡ fields_of bs) where
       check_short h w = rw (its_fields, ← en, lt-leb (2 + n) (length rest) h) (w, refl)
 
       pub check_whole : 2 + n ≤ length rest → {sheet plan list new : List ℕ} → sheet ≡ sheet_of bs f → plan ≡ plan_of bs f → list ≡ part rest 2 n
-          → new ≡ drop (2 + n) rest → {m : ℕ} → m ≡ scratch_size → {v : Result Bool} {s' : List ℕ} → Accepted (accepts_of sheet plan list new f.allowance m) v s s'
+          → new ≡ drop (2 + n) rest → {m : ℕ} → m ≡ scratch_size → {v : Result Bool} {s' : List ℕ}
+          → Accepted (accepts_of sheet plan list new f.allowance m) v s s'
           → Wrote (yes_line v) 0 t t' r → Explained (checks bs (fields_of bs)) r t t' s s'
       unfolding checks_by scratch_after
       check_whole h {sheet} {plan} {list} {new} es ep el ew {m} em {v} {s'} x w =

@@ -12,7 +12,8 @@ returns-in-Get c = let (p0, p1) = explained_get c.rest_from-job.ensures c.parse.
 pub returns-in-Put : goal.returns-in-Put
 returns-in-Put c = let (p0, p1) = explained_put c.rest_from-job.ensures c.parse.ensures c.told_line-in-Put.ensures c.sheet_of-in-Put.ensures
     c.plan_of-in-Put.ensures
-    (omega (arith, c.why_put-arg-1.given)) (c.in-Some.is ∙ ap Some c.in-Put.is) c.view_of.ensures c.why_put-why.ensures in record { wrote = p0; scratch_after = p1 }
+    (omega (arith, c.why_put-arg-1.given)) (c.in-Some.is ∙ ap Some c.in-Put.is) c.view_of.ensures c.why_put-why.ensures
+    in record { wrote = p0; scratch_after = p1 }
 
 pub returns-in_default : goal.returns-in_default
 returns-in_default c = let (p0, p1) = explained_none c.rest_from-job.ensures c.parse.ensures c.in_default.is refl c.refusal.ensures in record {
