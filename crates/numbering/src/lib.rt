@@ -113,8 +113,8 @@ fn lowest(uses: [u8; 256], nodes: usize) -> Option<usize>
     uses[..nodes].iter().position(|times| *times == 2)
 }
 
-/// The lowest node of a sheet that is used twice, as a child or a root (81): of a sheet whose table this is.
-pub fn first_used_twice(sheet: &[u8], t: Table) -> Option<usize>
+// The lowest node of a sheet that is used twice, as a child or a root (81): of a sheet whose table this is.
+fn first_used_twice(sheet: &[u8], t: Table) -> Option<usize>
     ensures { (sh : Sheet) → read_sheet sheet.now ≡ ok sh → t ≡ table_of sh → result ≡ used_twice sh }
 {
     if 200 < t.nodes {
