@@ -1,7 +1,7 @@
 -- The reader's contracts: what a reading function answers, and what then holds of the bytes.
 use Rattle.std.specs.Prelude.{◌≡◌, Ok, Err, Bool, true, false, ◌&&◌, ltb, length, take, drop}
 use Rattle.std.proofs.Math.Path.{refl, ap}
-use Rattle.std.proofs.Common.{sym, ap₂, ◌∙◌, arith, le_refl, one-add, lt-ltb, le-leb, length-append, length-drop, take-append-drop, drop-cons}
+use Rattle.std.proofs.Common.{sym, ap₂, ◌∙◌, arith, le_refl, one-add, lt-ltb, ne_eqb, le-leb, length-append, length-drop, take-append-drop, drop-cons}
 use Rattle.std.proofs.Common.{drop-drop, take_all, get_or-drop, length-take-le}
 use mathlib.Core.List.{List, [], ◌∷◌, ◌++◌}
 use Prim.Native.Nat.{ℕ, zero, suc, ◌+◌, ◌-◌, ◌*◌, ◌≤◌, ◌<◌}
@@ -53,7 +53,7 @@ use Rattle.value.specs.Reading.{
 use Rattle.value.specs.Laws.{bytes_of, Sound, s_whole, Names, is0, is1, is2, is3, is4, is5, is6, is_other}
 use Rattle.value.proofs.Laws.{names, sound, composed, body_read, nothing_owed, read_sound}
 use Rattle.value.specs.declared.Fault.TheVariants.{Malformed, TooLong}
-use Rattle.value.specs.Reader.{Read, outcome, Reads, r_malformed, r_too_long, r_whole, from, TwoParts, BodyBegins, NumberBegins, small, large}
+use Rattle.value.specs.Reader.{Read, outcome, Reads, r_malformed, r_too_long, r_whole, answer, from, TwoParts, BodyBegins, NumberBegins, small, large}
 
 pub from-drop : (a : ℕ) (s : List ℕ) → from a s ≡ drop a s
 from-drop a s = take_all (length s - a) (drop a s) (rw length-drop (le_refl (length s - a)))
@@ -267,6 +267,14 @@ module _ {least follow : ℕ} {s : List ℕ} {room : ℕ} (p : BodyBegins least 
         ∙ ap (on_whole (p.make os)) (body_read least follow 0 (all_bytes (drop 1 s) (suc follow) bytes_behind) n le (drop (suc follow) (drop 1 s))
         (room - suc (suc follow)) (omega (arith, n)) os)
         ∙ composed (p.make os) (a_body t) (λ x. p.make os (a_body t x)) (λ x. refl) _ ∙ rw d)
+
+-- a length of 1 to 256 is told by its number
+pub answer_whole : (n : ℕ) → 0 < n → n ≤ 256 → answer n ≡ Ok n
+answer_whole zero h k = absurd (omega arith)
+answer_whole (suc n) h k = rw (ne_eqb n 256 (λ e. omega (arith, e)))
+
+pub answered : {o : Owed} {s : List ℕ} {room n : ℕ} → Reads o s room (Ok n) → 0 < n → n ≤ 256 → Reads o s room (answer n)
+answered {n} w h k = rw (answer_whole n h k) w
 
 -- a number of either width
 module _ {w : ℕ} {s : List ℕ} {room : ℕ} (p : NumberBegins w s room) where

@@ -1,7 +1,7 @@
 -- The reader's contracts: what a reading function answers, and what then holds of the bytes.
-use Rattle.std.specs.Prelude.{◌≡◌, Result, Ok, Err, length, take, drop}
+use Rattle.std.specs.Prelude.{◌≡◌, Result, Ok, Err, Bool, true, false, eqb, length, take, drop}
 use mathlib.Core.List.{List, [], ◌∷◌}
-use Prim.Native.Nat.{ℕ, ◌-◌, ◌≤◌, ◌<◌}
+use Prim.Native.Nat.{ℕ, zero, suc, ◌-◌, ◌≤◌, ◌<◌}
 use Rattle.std.proofs.Math.ListN.{get_or}
 use Rattle.value.specs.Value.{size, least_wide}
 use Rattle.value.specs.Reading.{Owed, value, byte, Things, nothing, a_value, Found, whole, malformed, too_long, on_whole, read}
@@ -17,6 +17,15 @@ unfoldable pub outcome : Found (value ∷ []) → Read
 outcome (whole (a_value v nothing) more) = Ok (size v)
 outcome malformed = Err Malformed
 outcome too_long = Err TooLong
+
+-- the answer as a number: a length of 1 to 256, 0 malformed, 257 too long
+abbrev pub too_long_or : Bool → ℕ → Read
+too_long_or true n = Err TooLong
+too_long_or false n = Ok n
+
+abbrev pub answer : ℕ → Read
+answer zero = Err Malformed
+answer (suc n) = too_long_or (eqb n 256) (suc n)
 
 -- One thing is owed, and perhaps others after it. It takes n bytes, and the others are read from what is behind them; or all is refused
 pub data Reads (o : Owed) (bs : List ℕ) (room : ℕ) : Read → Type 0 where

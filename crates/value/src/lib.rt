@@ -1,13 +1,14 @@
 //! Values and their bytes (document 01 and docs/SHEETS.md, "Values").
 #![tactic(auto)]
 
-ghost use Rattle.std.specs.Prelude.{◌≡◌, ◌+◌, ◌*◌, ◌/◌, ◌%◌, ◌≤◌, get_or};
-ghost use Rattle.value.specs.Reader.{Reads, PartBegins, NumberBegins, outcome};
+ghost use Rattle.std.specs.Prelude.{◌≡◌, Err, ◌+◌, ◌*◌, ◌/◌, ◌%◌, ◌≤◌, get_or};
+ghost use Rattle.value.specs.Reader.{Reads, PartBegins, NumberBegins, answer, outcome};
 ghost use Rattle.value.specs.Reading.{read_value, value, rest};
 ghost use Rattle.value.specs.Numbered.{numbered};
 ghost use Rattle.value.specs.Spans.{next_of, spans_of, view_of};
 
 use refusal::Refusal;
+use std::marker::Model;
 
 /// Why bytes begin with no value.
 #[derive(Clone, Copy, Debug, PartialEq, Eq)]
@@ -21,6 +22,38 @@ pub enum Fault {
 // The most bytes that a value has.
 const MOST: usize = 256;
 
+// What the reader of a list answers, as one number: how many bytes, 1 to 256, or one of the two below for a fault. It calls itself for each list in
+// a list, and a number goes back in a register, where a `Result` takes a place in the caller's frame (docs/PERFORMANCE.md).
+#[derive(Drop)]
+struct Taken {
+    number: usize,
+}
+
+impl Model for Taken {
+    ghost use Rattle.value.specs.Reader.{Read, answer};
+
+    ghost Value = { Read };
+
+    ghost view = { λ t. answer t.number };
+}
+
+const MALFORMED: Taken = Taken { number: 0 };
+
+const TOO_LONG: Taken = Taken { number: 257 };
+
+impl Taken {
+    // The length or the fault.
+    fn read(&self) -> Result<usize, Fault>
+        ensures { result ≡ self.now }
+    {
+        match self.number {
+            0 => Err(Fault::Malformed),
+            257 => Err(Fault::TooLong),
+            n => Ok(n),
+        }
+    }
+}
+
 /// The length of the value that the bytes begin with, 1 to 256.
 pub fn read_value(s: &[u8]) -> Result<usize, Fault>
     ensures { result ≡ outcome (read_value s.now) }
@@ -29,7 +62,9 @@ pub fn read_value(s: &[u8]) -> Result<usize, Fault>
 }
 
 // A value of any kind, of at most `room` bytes. A pair owes two values in place of one. Kinds are told by their bytes, as document 01's table has
-// them: each is met in one place, where an enum would only name it again.
+// them: each is met in one place, where an enum would only name it again. It and the readers of numbers are inlined into the reader of a list, so that
+// no `Result` of theirs stands in memory (docs/PERFORMANCE.md).
+#[inline(always)]
 #[cycle(list_part_value)]
 fn value(s: &[u8], room: usize) -> Result<usize, Fault>
     requires { room ≤ 256 }
@@ -63,19 +98,20 @@ fn value(s: &[u8], room: usize) -> Result<usize, Fault>
 }
 
 // A list or a number of either kind, of at most `room` bytes.
+#[inline(always)]
 #[cycle(list_part_value)]
 fn part(s: &[u8], room: usize) -> Result<usize, Fault>
     requires { PartBegins s.now room }
     ensures { Reads value s.now room result }
 {
     if s[0] < 4 {
-        return list(s, room);
+        return list(s, room).read();
     }
     numeral(s, room)
 }
 
-// A number of either kind, of at most `room` bytes. It has a function of its own so that `value` is small enough to be inlined into `list`
-// (docs/PERFORMANCE.md).
+// A number of either kind, of at most `room` bytes.
+#[inline(always)]
 fn numeral(s: &[u8], room: usize) -> Result<usize, Fault>
     requires { PartBegins s.now room × (4 ≤ get_or s.now 0 0) }
     ensures { Reads value s.now room result }
@@ -89,7 +125,7 @@ fn numeral(s: &[u8], room: usize) -> Result<usize, Fault>
 
 // A list, of at most `room` bytes, member by member.
 #[cycle(list_part_value)]
-fn list(s: &[u8], room: usize) -> Result<usize, Fault>
+fn list(s: &[u8], room: usize) -> Taken
     requires { room ≤ 256 }
     ensures { Reads rest s.now room result }
 {
@@ -97,23 +133,28 @@ fn list(s: &[u8], room: usize) -> Result<usize, Fault>
     // no `for`: where the next member begins comes from the one read
     while at < s.len() {
         if room <= at {
-            return Err(Fault::TooLong);
+            return TOO_LONG;
         }
         let kind = s[at];
         if kind == 2 {
-            return Ok(at + 1);
+            return Taken { number: at + 1 };
         }
         if kind != 3 {
-            return Err(Fault::Malformed);
+            return MALFORMED;
         }
         at += 1;
-        at += value(&s[at..], room - at)?;
+        match value(&s[at..], room - at) {
+            Ok(n) => at += n,
+            Err(Fault::Malformed) => return MALFORMED,
+            Err(Fault::TooLong) => return TOO_LONG,
+        }
     }
-    Err(Fault::Malformed)
+    MALFORMED
 }
 
 // A number that has so many bytes, its kind byte counted: 3 of kind 04, 5 of kind 06. Each is judged in turn, so that of the input's end and
 // the room's the nearer one is met, the input's where they are one. One of kind 06 that is at most 65,535 is malformed at its last byte.
+#[inline(always)]
 fn number_of<const WIDTH: usize>(s: &[u8], room: usize) -> Result<usize, Fault>
     requires { NumberBegins WIDTH s.now room }
     ensures { Reads value s.now room result }
@@ -131,6 +172,7 @@ fn number_of<const WIDTH: usize>(s: &[u8], room: usize) -> Result<usize, Fault>
 }
 
 // The next of several values; `None` where the bytes end.
+#[inline(always)]
 #[tactic(auto, using(crate::proofs::Progress::next_none, crate::proofs::Progress::next_some))]
 fn next_value(s: &[u8]) -> Option<Result<usize, Fault>>
     ensures { result ≡ next_of s.now }
