@@ -1,7 +1,7 @@
 -- WORDS AND NAMES as code has them: a name is the place where it begins, and names in scope are places one behind the other.
 use Rattle.std.specs.Prelude.{◌≡◌, Bool, ◌&&◌, ◌||◌, cond, eqb, leb, length, take}
 use Rattle.std.proofs.Math.Path.{refl, ap}
-use Rattle.std.proofs.Common.{sym, ◌∙◌, get_or-drop, get_or-take, take-take, drop-drop, length-drop}
+use Rattle.std.proofs.Common.{sym, ◌∙◌, add-zero, get_or-drop, get_or-take, take-take, drop-drop, length-drop, length-take-le}
 use Rattle.std.proofs.Math.Seq.{take-length}
 use Rattle.std.specs.Bool.{Decides}
 use Rattle.std.specs.Cmp.Lexicographic.{pointwise}
@@ -19,7 +19,7 @@ use Rattle.syntax.specs.Reader.{Name, find, is_some, words, wild, sent, is_name}
 use Rattle.tokens.specs.Laid.{shuts}
 use Rattle.tokens.specs.Ahead.{all_in, is_part}
 use Rattle.tokens.specs.Same.{and-true}
-use Rattle.lexing.specs.Lexing.{in_run, part, part_behind, at_byte, token_of, token_at, Shape}
+use Rattle.lexing.specs.Lexing.{in_run, part, part_length, part_behind, at_byte, token_of, token_at, Shape}
 use Rattle.lexing.specs.declared.Tail.TheVariants as tail
 use Rattle.lexing.specs.declared.Kind.{Kind}
 use Rattle.lexing.specs.declared.Kind.TheVariants as kind
@@ -269,3 +269,21 @@ name_alike {s} {t} p g e h k l =
     let q : drop (p + n) s ≡ drop n (drop p s) = sym (drop-drop n p s) in
     let r : take (length s - p) (drop p s) ≡ drop p s = ap (λ (i : ℕ). take i (drop p s)) (sym (length-drop p s)) ∙ take-length (drop p s) in
     rw (k, l, r, word_is s t e, name_word s p h, q) (sym (starts_same (drop p s) (part s t.at t.end) (g.a_word e).1))
+
+-- a name whose first byte is another than the word's
+other_first : (w l : List ℕ) → 0 < length w → 0 < length l → (get_or l 0 0 ≡ get_or w 0 0 → ⊥) → pointwise eqb w (take (length w) l) ≡ false
+other_first [] l h k n = absurd (omega arith)
+other_first (b ∷ w) [] h k n = absurd (omega arith)
+other_first (b ∷ w) (c ∷ l) h k n = rw (ne_eqb b c (λ e. n (sym e)))
+
+pub name_other : {s : List ℕ} {t : Lexeme} (p : ℕ) → Shape s t → t.kind ≡ kind.Word → p < length s → (get_or s p 0 ≡ get_or s t.at 0 → ⊥)
+    → false ≡ same (name_at s p) (word_of (token_at s t))
+name_other {s} {t} p g e h n =
+    let w = part s t.at t.end in
+    let few : t.at < t.end = (g.a_word e).0 in
+    let l = take (length s - p) (drop p s) in
+    let long : length w ≡ t.end - t.at = part_length s t.at t.end g.inside in
+    let some : 0 < length l = rw (length-take-le (length s - p) (drop p s) (omega (arith, length-drop p s))) (omega arith) in
+    let at_p : get_or l 0 0 ≡ get_or s p 0 = get_or-take (length s - p) (drop p s) 0 0 (omega arith) ∙ get_or-drop p s 0 0 ∙ rw add-zero in
+    let at_t : get_or w 0 0 ≡ get_or s t.at 0 = part_at_lem s t.at t.end 0 (omega arith) ∙ rw add-zero in
+    name_alike {s = s} {t = t} p g e h (sym (other_first w l (omega (arith, long)) some (λ q. n (sym at_p ∙ q ∙ at_t)))) refl

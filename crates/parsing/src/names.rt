@@ -69,6 +69,10 @@ pub fn is_same(text: &[u8], place: usize, t: Lexeme) -> bool
     if text.len() <= place {
         return is_word(text, t, b"sent");
     }
+    // most names differ in the first byte, which is told without a call
+    if text[place] != text[t.at] {
+        return false;
+    }
     let word = &text[t.at..t.end];
     text[place..].starts_with(word) && ends_word(text, place + word.len())
 }

@@ -12,15 +12,40 @@ pub fn number(n: u16) -> [u8; 3]
     [4, high, low]
 }
 
+// Copies n bytes of the arena down: from the first on. The library's `copy_within` would have the archive ask its host for `memmove`.
+fn copy_down(arena: &mut [u8], from: usize, to: usize, n: usize)
+    requires n_in_bounds { (from + n ≤ length arena.old) × (to + n ≤ length arena.old) }
+    requires to_le_from { to ≤ from }
+    ensures { Copied from to n arena.old arena.new }
+{
+    for i in 0..n {
+        arena[to + i] = arena[from + i];
+    }
+}
+
+// Copies n bytes of the arena up: from the last on.
+fn copy_up(arena: &mut [u8], from: usize, to: usize, n: usize)
+    requires n_in_bounds { (from + n ≤ length arena.old) × (to + n ≤ length arena.old) }
+    requires from_le_to { from ≤ to }
+    ensures { Copied from to n arena.old arena.new }
+{
+    for i in (0..n).rev() {
+        arena[to + i] = arena[from + i];
+    }
+}
+
 /// Copies n bytes of the arena from one place to another; the two may overlap.
 pub fn copy(arena: &mut [u8], from: usize, to: usize, n: usize)
     requires { (from + n ≤ length arena.old) × (to + n ≤ length arena.old) }
     ensures { Copied from to n arena.old arena.new }
 {
-    if from == to {
+    if from < to {
+        copy_up(arena, from, to, n);
         return;
     }
-    arena.copy_within(from..from + n, to);
+    if to < from {
+        copy_down(arena, from, to, n);
+    }
 }
 
 /// Copies bytes to the front of the arena.
