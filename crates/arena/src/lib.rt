@@ -11,7 +11,7 @@ ghost use Rattle.arena.specs.Chain.{in_chain, chained, left_as};
 ghost use Rattle.arena.specs.Bits.{filled_from};
 ghost use Rattle.arena.specs.Door.{Judges};
 
-use outcome::Answer;
+use outcome::{Answer, deeper, is_refused, later};
 use refusal::Refusal;
 
 /// What a walk refuses before it reads anything: too little scratch, then an allowance of 0 or one that is too large.
@@ -99,6 +99,19 @@ pub fn leave(arena: &mut [u8], answer: Answer, node: usize, levels: usize) -> An
         return answer.deeper();
     }
     answer.later(1)
+}
+
+/// What `leave` does, for any number, whether it is that of an answer or not: where its low byte is not 0, it is a refusal's.
+#[tactic(auto, using(crate::specs::Chain::leaving))]
+pub fn leave_number(arena: &mut [u8], answer: usize, node: usize, levels: usize) -> usize
+    ensures value { result ≡ left_as answer }
+    ensures arena_after { arena.new ≡ chained arena.old answer node levels }
+{
+    if is_refused(answer) {
+        name(arena, node, levels);
+        return deeper(answer);
+    }
+    later(answer, 1)
 }
 
 /// Which of the first k cells took a view: bit i for cell i. A plan has at most 16 variables, and no cell behind them has a bit.

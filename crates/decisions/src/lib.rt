@@ -21,7 +21,7 @@ ghost use Rattle.decisions.specs.Decisions.{
   fronted_as,
 };
 
-use outcome::Answer;
+use outcome::{Answer, done, is_refused, len_of, refused, steps_of};
 use refusal::Refusal;
 use shapes::Shape;
 
@@ -240,4 +240,19 @@ pub fn fronted(got: Answer, built: usize, top: usize) -> Answer
         return Answer::refused(Refusal::ValueLong);
     }
     Answer::done(top, size, got.steps())
+}
+
+/// What `fronted` answers, for any number, whether it is that of an answer or not: where its low byte is not 0, it is a refusal's.
+#[tactic(auto, using(crate::specs::DecisionLaws::fronts))]
+pub fn fronted_number(got: usize, built: usize, top: usize) -> usize
+    ensures { result ≡ fronted_as got built top }
+{
+    if is_refused(got) {
+        return got;
+    }
+    let size = 1 + len_of(got);
+    if overlong(built, size) {
+        return refused(Refusal::ValueLong.number());
+    }
+    done(top, size, steps_of(got))
 }

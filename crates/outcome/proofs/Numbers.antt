@@ -1,5 +1,5 @@
 -- The low byte of an answer is 0 or the number of a refusal.
-use Rattle.std.specs.Prelude.{◌≡◌, Bool, true, false, refl, ℕ, ◌+◌, ◌*◌, ◌%◌, ◌≤◌, ◌<◌, ltb, Result, Ok, Err, Option, None, Some}
+use Rattle.std.specs.Prelude.{◌≡◌, Bool, true, false, refl, ℕ, suc, ◌+◌, ◌*◌, ◌%◌, ◌≤◌, ◌<◌, ltb, Result, Ok, Err, Option, None, Some}
 use Rattle.std.specs.Result.{result_ok}
 use Rattle.std.proofs.Common.{sym, ap, ◌∙◌, arith}
 use Rattle.std.proofs.lemmas.Bool.{false≢true}
@@ -55,7 +55,24 @@ use Rattle.refusal.specs.declared.Refusal.TheVariants.{
   TextFull,
 }
 use Rattle.refusal.specs.Refusal.{number_of, Decodes}
-use Rattle.outcome.specs.Outcome.{done_as, is_refusal, code_of, Numbered, Refuses, done_there, len_small, start_small}
+use Rattle.outcome.specs.Outcome.{
+  done_as,
+  refused_by,
+  is_refusal,
+  code_of,
+  len_of,
+  start_of,
+  steps_of,
+  deeper_as,
+  later_as,
+  Numbered,
+  Refuses,
+  done_there,
+  len_small,
+  start_small,
+  later_refused,
+  later_done,
+}
 
 -- no refusal has the number 0, and each is a byte
 pub number_fits : (r : Refusal) → (1 ≤ number_of r) × (number_of r < 256)
@@ -128,6 +145,25 @@ deeper_numbered a n s h e =
     let z : (a % 256 + 256 * n + 16777216 * s) % 256 ≡ a % 256 = omega arith in
     let p = h (sym (ap (ltb 0) z) ∙ e) in
     (p.0, p.1 ∙ sym z)
+
+-- what the functions over numbers make, of an answer's number, is one's too
+pub done_answer : {b : ℕ} (start len steps : ℕ) → b ≡ done_as start len steps → Numbered b
+done_answer start len steps e = rw e (done_numbered start len steps)
+
+pub by_answer : {b : ℕ} (i : ℕ) (r : Refusal) → b ≡ refused_by (number_of r) i → Numbered b
+unfolding refused_by
+by_answer i r e = rw e (by_numbered (suc i) r refl)
+
+pub deeper_answer : {b : ℕ} (a : ℕ) → b ≡ deeper_as a → Numbered a → Numbered b
+unfolding deeper_as code_of
+deeper_answer a e h = rw e (deeper_numbered a ((len_of a + 1) % 65536) (start_of a) h)
+
+pub later_answer : {b : ℕ} (a n : ℕ) → b ≡ later_as a n → Numbered a → Numbered b
+later_answer {b} a n e h = go (is_refusal a) refl
+  where
+    go : (q : Bool) → is_refusal a ≡ q → Numbered b
+    go true t = rw (e ∙ later_refused a n t) h
+    go false t = done_answer (start_of a) (len_of a) (n % 16777216 + steps_of a) (e ∙ later_done a n t)
 
 -- the low byte read
 pub read_refusal : (a : ℕ) {n : ℕ} (q : Result Refusal NoRefusal) → Numbered a → n ≡ code_of a → Decodes n q → Refuses a (result_ok q)
