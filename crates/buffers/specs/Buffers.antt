@@ -1,7 +1,7 @@
 -- What a call does to its caller's buffers.
-use Rattle.std.specs.Prelude.{◌≡◌, true, false, cond, List, ◌++◌, ℕ, ◌+◌, ◌≤◌, min, leb, length, take, drop, replicate}
-use Rattle.std.proofs.Common.{ap, ◌∙◌, arith}
-use Rattle.std.proofs.Math.Seq.{paste}
+use Rattle.std.specs.Prelude.{◌≡◌, refl, true, false, cond, List, ◌++◌, ℕ, ◌+◌, ◌≤◌, ◌<◌, min, leb, length, take, drop, set, get_or, replicate}
+use Rattle.std.proofs.Common.{ap, ◌∙◌, add-one, arith, length-drop, length-set, get_or-drop}
+use Rattle.std.proofs.Math.Seq.{paste, paste-zero, paste-suc}
 use borrow.Author.Tests.{le-leb}
 use Rattle.std.proofs.Common.{rules}
 use Rattle.std.proofs.lemmas.Slice.{overwrites}
@@ -40,3 +40,21 @@ module _ (from to n : ℕ) (s b : List ℕ) where
   -- what a copy of them leaves
   pub copied_part : {k : ℕ} {p : List ℕ} → from + n ≤ length s → to + n ≤ length b → k ≡ n → p ≡ take k (drop from s) → put_mid to k b p ≡ copied from to n s b
   copied_part {k} {p} h j e d = rw (copied_room h j, d) (search (rules, overwrites))
+
+-- i bytes are copied out
+pub record Copying (from to i : ℕ) (s b a : List ℕ) : Type 0 where
+  pub made : a ≡ paste b to (drop from s) i
+  pub long : length a ≡ length b
+
+pub copying_none : (from to : ℕ) (s b : List ℕ) → Copying from to 0 s b b
+copying_none from to s b = record { made = paste-zero b to (drop from s); long = refl }
+
+pub copying_more : {from to i : ℕ} {s b a : List ℕ} → Copying from to i s b a → from + i < length s → to + i < length b
+    → Copying from to (i + 1) s b (set a (to + i) (get_or s (from + i) 0))
+copying_more {from} {to} {i} {s} {b} {a} c hs hb = record {
+  made = rw (← get_or-drop from s i 0, c.made, add-one) (paste-suc b to (drop from s) i 0 hb (rw length-drop (omega arith)));
+  long = length-set a (to + i) (get_or s (from + i) 0) ∙ c.long;
+}
+
+pub copying_all : {from to i n : ℕ} {s b a : List ℕ} → Copying from to i s b a → i ≡ n → a ≡ paste b to (drop from s) n
+copying_all {from} {to} {s = s} {b = b} c e = c.made ∙ ap (paste b to (drop from s)) e

@@ -194,5 +194,8 @@ pub fn store(arena: &mut [u8], at: usize, from: &[u8])
     if arena.len() - at < from.len() {
         return;
     }
-    arena[at..at + from.len()].copy_from_slice(from);
+    // by a loop: of `copy_from_slice` the compiler makes a call of `memmove` here, which the archive would have to ask its host for
+    for i in 0..from.len() {
+        arena[at + i] = from[i];
+    }
 }

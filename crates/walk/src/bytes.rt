@@ -12,40 +12,15 @@ pub fn number(n: u16) -> [u8; 3]
     [4, high, low]
 }
 
-// Copies n bytes of the arena down: from the first on. The library's `copy_within` would have the archive ask its host for `memmove`.
-fn copy_down(arena: &mut [u8], from: usize, to: usize, n: usize)
-    requires n_in_bounds { (from + n ≤ length arena.old) × (to + n ≤ length arena.old) }
-    requires to_le_from { to ≤ from }
-    ensures { Copied from to n arena.old arena.new }
-{
-    for i in 0..n {
-        arena[to + i] = arena[from + i];
-    }
-}
-
-// Copies n bytes of the arena up: from the last on.
-fn copy_up(arena: &mut [u8], from: usize, to: usize, n: usize)
-    requires n_in_bounds { (from + n ≤ length arena.old) × (to + n ≤ length arena.old) }
-    requires from_le_to { from ≤ to }
-    ensures { Copied from to n arena.old arena.new }
-{
-    for i in (0..n).rev() {
-        arena[to + i] = arena[from + i];
-    }
-}
-
 /// Copies n bytes of the arena from one place to another; the two may overlap.
 pub fn copy(arena: &mut [u8], from: usize, to: usize, n: usize)
     requires { (from + n ≤ length arena.old) × (to + n ≤ length arena.old) }
     ensures { Copied from to n arena.old arena.new }
 {
-    if from < to {
-        copy_up(arena, from, to, n);
+    if from == to {
         return;
     }
-    if to < from {
-        copy_down(arena, from, to, n);
-    }
+    arena.copy_within(from..from + n, to);
 }
 
 /// Copies bytes to the front of the arena.
@@ -53,7 +28,10 @@ pub fn copy_in(from: &[u8], arena: &mut [u8])
     requires { length from.now ≤ length arena.old }
     ensures { CopiedIn from.now arena.old arena.new }
 {
-    arena[..from.len()].copy_from_slice(from);
+    // by a loop: of `copy_from_slice` the compiler makes a call of `memmove` here, which the archive would have to ask its host for
+    for i in 0..from.len() {
+        arena[i] = from[i];
+    }
 }
 
 /// A part of the arena is copied into `whole`.

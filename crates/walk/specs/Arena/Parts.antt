@@ -1,11 +1,10 @@
 -- Parts of the arena's bytes, and what a change leaves alone.
-use Rattle.std.specs.Prelude.{◌≡◌, refl, List, [], ◌∷◌, ◌++◌, ℕ, zero, suc, ◌+◌, ◌-◌, ◌≤◌, ◌<◌, length, take, drop, get_or, set}
+use Rattle.std.specs.Prelude.{◌≡◌, refl, List, [], ◌∷◌, ◌++◌, ℕ, zero, suc, ◌+◌, ◌≤◌, ◌<◌, length, take, drop, get_or, set}
 use Rattle.std.proofs.Common.{sym, ap, ◌∙◌, append_assoc, zero-add, suc-add, le_refl}
 use Rattle.std.proofs.Common.{add-one, arith, length-set, length-append, length-drop, take-take, take-add}
-use Rattle.std.proofs.Common.{drop-drop, get_or-append-add, get_or-drop, get_or-take, length-take-le, take_at, drop_at, drop-cons, get_or-set_same}
-use Rattle.std.proofs.Common.{get_or-set_other, ext_get_or}
+use Rattle.std.proofs.Common.{drop-drop, get_or-take, length-take-le, take_at, drop_at, drop-cons, get_or-set_same, get_or-set_other, ext_get_or}
 use Rattle.std.proofs.Math.Decide.{dec_lt}
-use Rattle.std.proofs.Math.Seq.{take-nil, paste, paste-zero, paste-suc, length_paste_head}
+use Rattle.std.proofs.Math.Seq.{take-nil, paste}
 use Rattle.std.proofs.lemmas.List.Edits.{length-paste}
 use Rattle.std.proofs.lemmas.List.{take-set-le}
 
@@ -81,19 +80,7 @@ pub record Copied (from to n : ℕ) (b a : List ℕ) : Type 0 where
   pub kept : SameBelow to b a
   pub bytes : part a to n ≡ part b from n
 
--- i bytes of the copy are made
-pub record Copying (from to i : ℕ) (b a : List ℕ) : Type 0 where
-  pub made : a ≡ paste b to (drop from b) i
-  pub long : length a ≡ length b
-
 module _ (b : List ℕ) (from to n : ℕ) (hf : from + n ≤ length b) (ht : to + n ≤ length b) where
-  -- the next byte to copy is as it was
-  copied_read : (i : ℕ) → to ≤ from → i < n → get_or (paste b to (drop from b) i) (from + i) 0 ≡ get_or b (from + i) 0
-  copied_read i d h =
-      let l : length (take to b ++ take i (drop from b)) ≡ to + i = length_paste_head b to (drop from b) i (omega arith) (rw length-drop (omega arith)) in
-      let e : from + i ≡ length (take to b ++ take i (drop from b)) + (from - to) = omega arith in
-      rw e (rw (get_or-append-add, get_or-drop) (ap (λ (k : ℕ). get_or b k 0) (omega arith)))
-
   copied_part : part (paste b to (drop from b) n) to n ≡ part b from n
   copied_part =
       let l : length (take to b) ≡ to = length-take-le to b (omega arith) in
@@ -111,65 +98,6 @@ module _ (b : List ℕ) (from to n : ℕ) (hf : from + n ≤ length b) (ht : to 
         long = length-paste b to (drop from b) n ht (rw length-drop (omega arith));
       }
 
-pub copying_none : (from to : ℕ) (b : List ℕ) → Copying from to 0 b b
-copying_none from to b = record { made = paste-zero b to (drop from b); long = refl }
-
-module _ {from to i : ℕ} {b a : List ℕ} (m : Copying from to i b a) (n : ℕ) (hf : from + n ≤ length b) (ht : to + n ≤ length b) where
-  pub copying_more : to ≤ from → i < n → Copying from to (i + 1) b (set a (to + i) (get_or a (from + i) 0))
-  copying_more x h =
-      let s : get_or a (from + i) 0 ≡ get_or (drop from b) i 0 = ap (λ (l : List ℕ). get_or l (from + i) 0) m.made ∙ copied_read b from to n hf ht i x h
-      ∙ sym (get_or-drop from b i 0) in
-      record {
-        made = rw (s, m.made, add-one) (paste-suc b to (drop from b) i 0 (omega arith) (rw length-drop (omega arith)));
-        long = length-set a (to + i) (get_or a (from + i) 0) ∙ m.long;
-      }
-
-  pub copying_all : i ≡ n → Copied from to n b a
-  copying_all e =
-      let made : a ≡ paste b to (drop from b) n = m.made ∙ ap (paste b to (drop from b)) e in
-      rw made (record { kept = copied_kept b from to n hf ht; bytes = copied_part b from to n hf ht })
-
--- A BACKWARD COPY of n bytes, up: it reads each before it is overwritten
-
-same_parts : (a b : List ℕ) (i j n : ℕ) → i + n ≤ length a → j + n ≤ length b → ((k : ℕ) → k < n → get_or a (i + k) 0 ≡ get_or b (j + k) 0)
-    → part a i n ≡ part b j n
-same_parts a b i j n p q h =
-    let la : length (part a i n) ≡ n = part_length a i n p in
-    let lb : length (part b j n) ≡ n = part_length b j n q in
-    ext_get_or 0 (part a i n) (part b j n) (la ∙ sym lb)
-    (λ k l.
-    let m : k < n = omega arith in
-    get_or-take n (drop i a) k 0 m ∙ get_or-drop i a k 0 ∙ h k m ∙ sym (get_or-drop j b k 0) ∙ sym (get_or-take n (drop j b) k 0 m))
-
--- the bytes from number i on are copied
-pub record CopyingUp (from to n i : ℕ) (b a : List ℕ) : Type 0 where
-  pub long : length a ≡ length b
-  pub low : (j : ℕ) → j < to + i → get_or a j 0 ≡ get_or b j 0
-  pub high : (j : ℕ) → i ≤ j → j < n → get_or a (to + j) 0 ≡ get_or b (from + j) 0
-
-pub copying_up_none : (from to n : ℕ) (b : List ℕ) → CopyingUp from to n n b b
-copying_up_none from to n b = record { long = refl; low = λ j h. refl; high = λ j h l. absurd (omega arith) }
-
-module _ {from to n i : ℕ} {b a : List ℕ} (m : CopyingUp from to n i b a) (hf : from + n ≤ length b) (ht : to + n ≤ length b) where
-  pub copying_up_more : from ≤ to → 0 < i → i ≤ n → CopyingUp from to n (i - 1) b (set a (to + (i - 1)) (get_or a (from + (i - 1)) 0))
-  copying_up_more above some few = record {
-    long = length-set a (to + (i - 1)) (get_or a (from + (i - 1)) 0) ∙ m.long;
-    low = λ j h. get_or-set_other a (to + (i - 1)) j (get_or a (from + (i - 1)) 0) 0 (λ e. omega arith) ∙ m.low j (omega arith);
-    high = λ j h l. go j h l (dec_lt j i);
-  }
-    where
-      go : (j : ℕ) → i - 1 ≤ j → j < n → Dec (j < i) → get_or (set a (to + (i - 1)) (get_or a (from + (i - 1)) 0)) (to + j) 0 ≡ get_or b (from + j) 0
-      go j h l (yes y) =
-          let e : i - 1 ≡ j = omega arith in
-          rw e (get_or-set_same a (to + j) (get_or a (from + j) 0) 0 (omega (arith, m.long)) ∙ m.low (from + j) (omega arith))
-      go j h l (no y) = get_or-set_other a (to + (i - 1)) (to + j) (get_or a (from + (i - 1)) 0) 0 (λ e. omega arith) ∙ m.high j (omega arith) l
-
-  pub copying_up_all : i ≡ 0 → Copied from to n b a
-  copying_up_all e = record {
-    kept = record { same = same_parts a b 0 0 to (omega (arith, m.long)) (omega arith) (λ k h. rw zero-add (m.low k (omega arith))); long = m.long };
-    bytes = same_parts a b to from n (omega (arith, m.long)) hf (λ k h. m.high k (omega arith) h);
-  }
-
 -- the library's copy within a slice
 pub copied_within : {from to n k : ℕ} {b a : List ℕ} → from + n ≤ length b → to + n ≤ length b → k ≡ n → a ≡ paste b to (drop from b) k
     → Copied from to n b a
@@ -186,6 +114,30 @@ copied_same from to n b e = rw e (record { kept = kept_refl to b; bytes = refl }
 pub record CopiedIn (s b a : List ℕ) : Type 0 where
   pub bytes : part a 0 (length s) ≡ s
   pub long : length a ≡ length b
+
+-- i bytes of it are copied
+pub record CopyingIn (i : ℕ) (s b a : List ℕ) : Type 0 where
+  pub long : length a ≡ length b
+  pub same : (j : ℕ) → j < i → get_or a j 0 ≡ get_or s j 0
+
+pub copying_in_none : (s b : List ℕ) → CopyingIn 0 s b b
+copying_in_none s b = record { long = refl; same = λ j h. absurd (omega arith) }
+
+module _ {i : ℕ} {s b a : List ℕ} (m : CopyingIn i s b a) where
+  pub copying_in_more : i < length b → CopyingIn (i + 1) s b (set a i (get_or s i 0))
+  copying_in_more h = record { long = length-set a i (get_or s i 0) ∙ m.long; same = λ j lt. go j lt (dec_lt j i) }
+    where
+      go : (j : ℕ) → j < i + 1 → Dec (j < i) → get_or (set a i (get_or s i 0)) j 0 ≡ get_or s j 0
+      go j lt (yes y) = get_or-set_other a i j (get_or s i 0) 0 (λ e. omega arith) ∙ m.same j y
+      go j lt (no n) = let e : j ≡ i = omega arith in rw e (get_or-set_same a i (get_or s i 0) 0 (omega (arith, m.long)))
+
+  pub copying_in_all : length s ≤ i → length s ≤ length b → CopiedIn s b a
+  copying_in_all h k =
+      let l : length (part a 0 (length s)) ≡ length s = part_length a 0 (length s) (omega (arith, m.long)) in
+      record {
+        bytes = ext_get_or 0 (part a 0 (length s)) s l (λ j lt. get_or-take (length s) a j 0 (omega arith) ∙ m.same j (omega arith));
+        long = m.long;
+      }
 
 pub copied_in : {s b f : List ℕ} → length s ≤ length b → f ≡ s → CopiedIn s b (f ++ drop (length s) b)
 copied_in {s} {b} h e = rw e (record {
