@@ -56,7 +56,7 @@ uint64_t lens_version(void);
 
 /* The most bytes of stack that a call takes: measured on the deepest jobs, sheets and texts (rust/tests/stack), not proved, and rounded up to
  * a page. A thread needs this much free when it calls. */
-#define LENS_STACK 200704u
+#define LENS_STACK 192512u
 
 /* The list that the sheet makes of the plan, in at most `allowance` steps. */
 uint64_t lens_get(const uint8_t *sheet, size_t sheet_len, const uint8_t *plan, size_t plan_len, uint32_t allowance,

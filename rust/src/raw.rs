@@ -26,7 +26,7 @@ pub const STARTS_MAX: usize = 16;
 /// The most nodes of a chain: 48 that a walk can be in, and one that it could not enter.
 pub const CHAIN_MAX: usize = 49;
 /// The most bytes of stack that a call takes, measured on the deepest jobs (`tests/stack`) and rounded up.
-pub const STACK: usize = 200_704;
+pub const STACK: usize = 192_512;
 
 /// The archive's answer. What a function does not give is 0, and with a refusal all but the number and the node or the detail that it names.
 #[derive(Clone, Copy, Debug, PartialEq, Eq)]
