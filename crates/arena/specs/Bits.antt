@@ -1,6 +1,6 @@
 -- Which cells took a view, as the notes of their slots have it, and the bits of them.
 use Rattle.std.specs.Prelude.{◌≡◌, refl, Bool, true, false, cond, not, List, [], ◌∷◌, ℕ, zero, suc, ◌+◌, ◌-◌, ◌*◌, ◌≤◌, ◌<◌, eqb, length, get_or}
-use Rattle.std.proofs.Common.{ap, ◌∙◌, arith}
+use Rattle.std.proofs.Common.{ap, ◌∙◌, arith, eq-eqb, ne_eqb}
 use mir.Val.{bool_byte}
 use Rattle.rules.specs.Bits.{bits_of}
 use Rattle.rules.proofs.Bits.Laws.{bits_below}
@@ -13,6 +13,14 @@ filled s = not (eqb s 0)
 unfoldable pub filled_from : List ℕ → (i n : ℕ) → List Bool
 filled_from slots i zero = []
 filled_from slots i (suc n) = filled (get_or slots i 0) ∷ filled_from slots (suc i) n
+
+pub filled_not : {s : ℕ} → s ≡ 0 → ◌≡◌ {A = ℕ} 0 (cond (filled s) 1 0)
+unfolding filled
+filled_not {s} e = rw (eq-eqb s 0 e)
+
+pub filled_so : {s : ℕ} → (s ≡ 0 → ⊥) → ◌≡◌ {A = ℕ} 1 (cond (filled s) 1 0)
+unfolding filled
+filled_so {s} n = rw (ne_eqb s 0 n)
 
 -- what the code adds for it
 pub filled_byte : (s : ℕ) {r : ℕ} → r ≡ bool_byte (not (eqb s 0)) → r ≡ cond (filled s) 1 0
@@ -50,3 +58,8 @@ bits_more {slots} {k} {i} {b} {c} h l d =
 -- 16 of them are a number of 16 bits
 pub bits_fit : {slots : List ℕ} {k i b : ℕ} → k ≤ 16 → BitsFrom slots k i b → b < 65536
 bits_fit {slots} {k} {i} l h = rw h.is (bits_below (filled_from slots i (k - i)) 16 (omega (arith, filled_length slots i (k - i))))
+
+pub bits_all : {slots : List ℕ} {k i b : ℕ} → BitsFrom slots k i b → i ≡ 0 → b ≡ bits_of (filled_from slots 0 k)
+bits_all {slots} {k} {i} h z =
+    let y : k - i ≡ k = omega arith in
+    h.is ∙ ap (λ (n : ℕ). bits_of (filled_from slots i n)) y ∙ ap (λ (j : ℕ). bits_of (filled_from slots j k)) z

@@ -1,6 +1,6 @@
 -- Laws of those definitions, for the code here and for callers.
-use Rattle.std.specs.Prelude.{◌≡◌, refl, List, Bool, true, false, ℕ, zero, suc, ◌+◌, ◌≤◌, eqb, ltb, ⊤, Result, Ok, Err}
-use Rattle.std.proofs.Common.{sym, ap₂, ◌∙◌, arith, eqb-true, ne_eqb, eq-eqb}
+use Rattle.std.specs.Prelude.{◌≡◌, refl, List, Bool, true, false, ℕ, zero, suc, ◌+◌, ◌≤◌, ◌<◌, eqb, ltb, ⊤, Result, Ok, Err}
+use Rattle.std.proofs.Common.{sym, ap₂, ◌∙◌, arith, eqb-true, ne_eqb, eq-eqb, lt-ltb, le-ltb}
 use Rattle.std.proofs.Math.Path.{ap}
 use Rattle.std.proofs.lemmas.Bool.{false≢true}
 use Rattle.shapes.specs.Parts.{passes_bytes}
@@ -68,6 +68,14 @@ judged_no c e t = rw (← e, t)
 pub other_kind : (kind rest : ℕ) → (kind ≡ 3 → ⊥) → false ≡ unfit_rest kind rest
 unfolding unfit_rest
 other_kind kind rest n = rw (ne_eqb kind 3 n)
+
+pub too_low : (kind rest : ℕ) → kind ≡ 3 → rest < 2 → true ≡ unfit_rest kind rest
+unfolding unfit_rest
+too_low kind rest e h = rw (eq-eqb kind 3 e, lt-ltb rest 2 h)
+
+pub by_height : (kind rest : ℕ) → kind ≡ 3 → 2 ≤ rest → ltb 3 rest ≡ unfit_rest kind rest
+unfolding unfit_rest
+by_height kind rest e h = rw (eq-eqb kind 3 e, le-ltb rest 2 h)
 
 -- where a number is that one, and where it is not
 module _ {A : Type 0} {n m : ℕ} (x y : A) where

@@ -217,6 +217,21 @@ word_run (c ∷ cs) (b ∷ t) k = run_byte b c t (word cs k) ∙ rw (same_test b
     go e true = e
     go e false = refl
 
+-- too few of them
+or_refused : (b : ℕ) (next : Awaits → Result Value) (d : Bool) (w : Awaits) → next w ≡ refusal 70 → found b next d w ≡ refusal 70
+unfolding found
+or_refused b next true w e = e
+or_refused b next false w e = refl
+
+word_ended : (cs t : List ℕ) → length t < length cs → (k : Awaits) → run t (word cs k) ≡ refusal 70
+unfolding word run ends
+word_ended [] t h k = absurd (omega arith)
+word_ended (c ∷ cs) [] h k = refl
+word_ended (c ∷ cs) (b ∷ t) h k = run_byte b c t (word cs k) ∙ or_refused b (run t) (eqb b c) (word cs k) (word_ended cs t (omega arith) k)
+
+pub word_short : (cs s : List ℕ) (i : ℕ) → length s - i < length cs → Off (word cs) s i 70
+word_short cs s i h k = word_ended cs (drop i s) (rw length-drop h) k
+
 module _ (cs : List ℕ) {s : List ℕ} {at : ℕ} (h : at ≤ length s) {r : Bool} (e : r ≡ starts_with nat_eq (front (length s - at) (drop at s)) cs) where
   pub spelled : length cs ≤ length (front (length s - at) (drop at s)) → r ≡ true → Passes (word cs) s at (Ok (at + length cs))
   spelled l t = passed record {
@@ -290,10 +305,17 @@ stored_small {n} h x e y =
     let z : n / 256 % 256 ≡ n / 256 = omega arith in
     rw (lt-leb least_wide n h) (wrote_then x (wrote_text y (rw z at e)))
 
-pub stored_wide : {n i p q : ℕ} {b b₁ b₂ : List ℕ} → n ≤ largest_number → least_wide ≤ n → Wrote (6 ∷ []) i b b₁ p → {t : List ℕ}
+pub stored_wide : {n i p q r t u : ℕ} {b b₁ b₂ b₃ b₄ b₅ : List ℕ} → least_wide ≤ n → Wrote (6 ∷ []) i b b₁ p → Wrote (n / 256 / 256 / 256 ∷ []) p b₁ b₂ q
+    → Wrote (n / 256 / 256 % 256 ∷ []) q b₂ b₃ r → Wrote (n / 256 % 256 ∷ []) r b₃ b₄ t → Wrote (n % 256 ∷ []) t b₄ b₅ u
+    → Wrote (encode (numeral n)) i b b₅ u
+unfolding numeral encode
+stored_wide {n} h x y z v w = rw (le-leb least_wide n h) (wrote_then x (wrote_then y (wrote_then z (wrote_then v w))))
+
+-- its four bytes at once
+pub stored_four : {n i p q : ℕ} {b b₁ b₂ : List ℕ} → n ≤ largest_number → least_wide ≤ n → Wrote (6 ∷ []) i b b₁ p → {t : List ℕ}
     → t ≡ n / 16777216 % 256 ∷ n / 65536 % 256 ∷ n / 256 % 256 ∷ n % 256 ∷ [] → Wrote t p b₁ b₂ q → Wrote (encode (numeral n)) i b b₂ q
 unfolding numeral encode
-stored_wide {n} m h x e y =
+stored_four {n} m h x e y =
     let z : n / 16777216 % 256 ≡ n / 256 / 256 / 256 = omega arith in
     let f : n / 65536 % 256 ≡ n / 256 / 256 % 256 = omega arith in
     rw (le-leb least_wide n h) (wrote_then x (wrote_text y (rw (z, f) at e)))

@@ -41,9 +41,9 @@ module _ {s : List ℕ} {at : ℕ} (q : Scalar s at) (l put : ℕ) where
     unfolding take begin start_of white
     at_false = on_take at_value q.there 0x66 e refl (λ k next. refl)
 
-    pub no_false : {b : List ℕ} {r : Outcome ℕ Refusal} {c : Refusal}
-        → Passes (word alse) s (at + 1) r → r ≡ Err c → Gives (value l) encode s at put b b (Err c)
-    no_false p z = g_refused _ refl (off_passed (λ k. k vfalse) at_false p z)
+    pub no_false : {b b' : List ℕ} {r : Outcome ℕ Refusal} {c : Refusal}
+        → Passes (word alse) s (at + 1) r → r ≡ Err c → length b' ≡ length b → Gives (value l) encode s at put b b' (Err c)
+    no_false p z y = g_refused _ y (off_passed (λ k. k vfalse) at_false p z)
 
     pub is_false : {b b' : List ℕ} {r : Outcome ℕ Refusal} {j n : ℕ} → Passes (word alse) s (at + 1) r → r ≡ Ok j → Wrote (0 ∷ []) put b b' n
         → Gives (value l) encode s at put b b' (done j n)
@@ -56,8 +56,9 @@ module _ {s : List ℕ} {at : ℕ} (q : Scalar s at) (l put : ℕ) where
     unfolding take begin start_of white
     at_true = on_take at_value q.there 0x74 e refl (λ k next. refl)
 
-    pub no_true : {b : List ℕ} {r : Outcome ℕ Refusal} {c : Refusal} → Passes (word rue) s (at + 1) r → r ≡ Err c → Gives (value l) encode s at put b b (Err c)
-    no_true p z = g_refused _ refl (off_passed (λ k. k vtrue) at_true p z)
+    pub no_true : {b b' : List ℕ} {r : Outcome ℕ Refusal} {c : Refusal}
+        → Passes (word rue) s (at + 1) r → r ≡ Err c → length b' ≡ length b → Gives (value l) encode s at put b b' (Err c)
+    no_true p z y = g_refused _ y (off_passed (λ k. k vtrue) at_true p z)
 
     pub is_true : {b b' : List ℕ} {r : Outcome ℕ Refusal} {j n : ℕ} → Passes (word rue) s (at + 1) r → r ≡ Ok j → Wrote (1 ∷ []) put b b' n
         → Gives (value l) encode s at put b b' (done j n)

@@ -1,4 +1,4 @@
-//! What is handed out in numbers and bytes that the caller lends: starts, the nodes of a chain, bits, and where a value stands.
+//! What is handed out in numbers and bytes that the caller lends: starts, the nodes of a chain, and where a value stands.
 ghost use Rattle.std.specs.Prelude.{◌≡◌, min, length};
 ghost use Rattle.value.specs.Numbered.{numbered};
 ghost use Rattle.packing.specs.HandedOut.{handed_over, Lookup};

@@ -15,7 +15,7 @@ use native.Mathlib.Omega.{arith}
 use Rattle.std.proofs.Math.ListN.{get_or, drop, drop_of_length-le}
 use borrow.Author.Tests.{ne_eqb, eq-eqb, eqb-true, eqb-false, le-leb, lt-leb, not-true}
 use Rattle.tokens.specs.Tokens.{class_of, word_of, same}
-use Rattle.syntax.specs.Reader.{Name, find, is_some, words, wild, sent, is_name}
+use Rattle.syntax.specs.Reader.{Name, find, is_some, words, wild, sent, some_byte, is_name}
 use Rattle.tokens.specs.Laid.{shuts}
 use Rattle.tokens.specs.Ahead.{all_in, is_part}
 use Rattle.tokens.specs.Same.{and-true}
@@ -85,7 +85,24 @@ module _ (s : List ℕ) (t : Lexeme) where
       go kind.End h = refl
       go (kind.Mark c) h = refl
 
--- A NAME: any word of six bytes, or of eight and more, is one
+pub either : {a b c d : Bool} → a ≡ b → c ≡ d → a || c ≡ b || d
+either e f = rw (e, f)
+
+-- A NAME
+module _ {s : List ℕ} {t : Lexeme} (g : Shape s t) where
+  pub no_name : (t.kind ≡ kind.Word → ⊥) → false ≡ is_name (word_of (token_at s t))
+  unfolding is_name
+  no_name h = rw (word_none s t h)
+
+pub wild_no_name : (w : Name) → same w wild ≡ true → false ≡ is_name w
+unfolding is_name
+wild_no_name w e = go (some_byte w)
+  where
+    go : (b : Bool) → false ≡ (b && (not (same w wild) && not (is_some (find words w))))
+    go true = rw e
+    go false = refl
+
+-- any word of six bytes, or of eight and more, is one
 abbrev no_long : ℕ → List Name → Bool
 no_long n [] = true
 no_long n (x ∷ xs) = not (eqb (length x) n) && no_long n xs

@@ -2,12 +2,12 @@
 use Rattle.std.specs.Option.{option_eq}
 use borrow.Author.Tests.{eqb-true, eq-eqb, ne_eqb}
 use Rattle.std.specs.Prelude.{◌≡◌, refl, not, unwrap_or, Option, Some, None, Ok, Err}
-use Rattle.std.specs.Prelude.{Bool, true, ◌&&◌, ◌⊎◌, List, [], ◌∷◌, ℕ, suc, ◌+◌, ◌-◌, ◌*◌, ◌≤◌, ◌<◌, eqb, leb, length, take}
+use Rattle.std.specs.Prelude.{Bool, true, ◌&&◌, ◌⊎◌, List, [], ◌∷◌, ℕ, zero, suc, ◌+◌, ◌-◌, ◌*◌, ◌≤◌, ◌<◌, eqb, leb, length, take}
 use Rattle.std.proofs.Math.Path.{sym, ap}
-use Rattle.std.proofs.Common.{◌∙◌, inl, inr, ⊎_elim, arith, le-leb}
+use Rattle.std.proofs.Common.{◌∙◌, inl, inr, ⊎_elim, arith, add-one, le-leb}
 use Rattle.std.proofs.Math.Bool.{false}
 use Rattle.std.proofs.lemmas.Bool.{lt-leb}
-use Rattle.std.proofs.Math.ListN.{get_or, drop, get_or-eq_default}
+use Rattle.std.proofs.Math.ListN.{get_or, drop, drop_of_length-le, get_or-eq_default}
 use Rattle.std.proofs.Math.Seq.{drop-cons}
 use lib.Pointwise.{pointwise}
 use Rattle.value.specs.Value.{size}
@@ -18,7 +18,7 @@ use Rattle.value.specs.Reader.{Read, outcome, from}
 use Rattle.value.proofs.Reader.{from-drop}
 use Rattle.shapes.specs.Needs.{Enough}
 use Rattle.shapes.proofs.TestsLaws.{passes_enough}
-use Rattle.shapes.specs.Parts.{behind, number_in, shape_as, shape_of, middle_of, part_where}
+use Rattle.shapes.specs.Parts.{behind, number_in, shape_as, shape_of, middle_of, part_where, first_part}
 use Rattle.shapes.specs.Parts.{kind_at, kind_behind, rest_kind, by_kinds, passes_bytes, both, same_bytes}
 use Rattle.shapes.specs.declared.Shape.{Shape}
 use Rattle.shapes.specs.declared.Shape.TheVariants.{Front, Number, Pair, Malformed}
@@ -128,6 +128,19 @@ middle_none (b ∷ bs) h = go (names b) h
     go is6 h = refl
     go is_other h = refl
 
+-- first_part
+pub first_none : (v : List ℕ) (at : ℕ) → at ≡ 0 → [] ≡ first_part v at
+unfolding first_part part_where
+first_none v at e = rw (le-leb at (length v) (omega arith), e)
+
+pub first_there : (v : List ℕ) (at : ℕ) → at ≤ length v → take (at - 1) (drop 1 v) ≡ first_part v at
+unfolding first_part part_where
+first_there v at h = rw (le-leb at (length v) h)
+
+pub first_out : (v : List ℕ) (at : ℕ) → length v < at → [] ≡ first_part v at
+unfolding first_part part_where
+first_out v at h = rw (lt-leb at (length v) h)
+
 -- part
 no_bytes : (b : Bool) → [] ≡ part_where b []
 unfolding part_where
@@ -169,6 +182,63 @@ same_pointwise [] [] = refl
 same_pointwise [] (y ∷ b) = refl
 same_pointwise (x ∷ a) [] = refl
 same_pointwise (x ∷ a) (y ∷ b) = rw (same_pointwise a b) (and_both (eqb x y) (same_bytes a b))
+
+both_false : (c : Bool) → both c false ≡ false
+unfolding both
+both_false true = refl
+both_false false = refl
+
+both_true : (c : Bool) → both c true ≡ c
+unfolding both
+both_true true = refl
+both_true false = refl
+
+pub same_long : (a b : List ℕ) → (length a ≡ length b → ⊥) → same_bytes a b ≡ false
+unfolding same_bytes both
+same_long [] [] h = absurd (h refl)
+same_long [] (y ∷ b) h = refl
+same_long (x ∷ a) [] h = refl
+same_long (x ∷ a) (y ∷ b) h = rw (same_long a b (λ e. h (ap suc e))) (both_false (eqb x y))
+
+-- the first i bytes are compared: equal or not, and what is left decides
+pub record Compared (a b : List ℕ) (equal : Bool) (i : ℕ) : Type 0 where
+  pub inside : i ≤ length a
+  pub so_far : same_bytes a b ≡ both equal (same_bytes (drop i a) (drop i b))
+
+pub same_start : (a b : List ℕ) → Compared a b true 0
+unfolding both
+same_start a b = record { inside = omega arith; so_far = refl }
+
+module _ {a b : List ℕ} {equal : Bool} {i : ℕ} (p : Compared a b equal i) where
+  pub same_done : length a ≤ i → length b ≤ i → equal ≡ same_bytes a b
+  unfolding same_bytes
+  same_done h k = sym (p.so_far ∙ rw (drop_of_length-le a h, drop_of_length-le b k) (both_true equal))
+
+  module _ (h : i < length a) (k : i < length b) where
+    same_at : same_bytes (drop i a) (drop i b) ≡ both (eqb (get_or a i 0) (get_or b i 0)) (same_bytes (drop (suc i) a) (drop (suc i) b))
+    unfolding same_bytes
+    same_at = rw (drop-cons a i 0 h, drop-cons b i 0 k)
+
+    pub same_not : (get_or a i 0 ≡ get_or b i 0 → ⊥) → {now : Bool} → now ≡ false → Compared a b now (i + 1)
+    unfolding both
+    same_not n z =
+        let e : same_bytes (drop i a) (drop i b) ≡ false = same_at ∙ rw (ne_eqb (get_or a i 0) (get_or b i 0) n) in
+        record { inside = omega arith; so_far = rw z (p.so_far ∙ rw e (both_false equal)) }
+
+    pub same_more : get_or a i 0 ≡ get_or b i 0 → {now : Bool} → now ≡ equal → Compared a b now (i + 1)
+    unfolding both
+    same_more e z =
+        let f : same_bytes (drop i a) (drop i b) ≡ same_bytes (drop (i + 1) a) (drop (i + 1) b) = same_at ∙ rw (
+          eq-eqb (get_or a i 0) (get_or b i 0) e,
+          add-one,
+        ) in
+        record { inside = omega arith; so_far = rw z (p.so_far ∙ ap (both equal) f) }
+
+-- kind_at
+pub kind_there : (v : List ℕ) (at : ℕ) → at < length v → get_or v at 0 ≡ kind_at v at
+kind_there [] at h = absurd (omega arith)
+kind_there (b ∷ v) zero h = refl
+kind_there (b ∷ v) (suc at) h = kind_there v at (omega arith)
 
 -- kind_at: a byte is told from one that is not there
 pub kind_is : (o : Option ℕ) {k : ℕ} (n : ℕ) → n < 255 → unwrap_or o 255 ≡ k → option_eq eqb o (Some n) ≡ eqb k n

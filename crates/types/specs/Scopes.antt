@@ -139,12 +139,12 @@ module _ {types starts : List ℕ} {stand : List Entry} where
   scope_width (base slot e f h) = e
   scope_width (inner s t a b Γ l e f h d g r) = rw (length-append Γ (two a b)) (omega arith)
 
-  scope_base : {v : View} {h : ℕ} {Γ : Scope} → Scoped types starts stand v Γ → v.found ≡ From h → (x : ℕ) → x < length Γ
+  pub scope_base : {v : View} {h : ℕ} {Γ : Scope} → Scoped types starts stand v Γ → v.found ≡ From h → (x : ℕ) → x < length Γ
       → At types starts (h + x) (get_or Γ x truths)
   scope_base {h = h} (base slot e f k) q x m = let z : slot ≡ h = cc in rw (← z) (k x m)
   scope_base (inner s t a b Γ l e f h d g r) q x m = absurd (cc)
 
-  scope_around : {v : View} {h : ℕ} {Γ : Scope} → Scoped types starts stand v Γ → v.found ≡ Inside h → Around types starts stand v h Γ
+  pub scope_around : {v : View} {h : ℕ} {Γ : Scope} → Scoped types starts stand v Γ → v.found ≡ Inside h → Around types starts stand v h Γ
   scope_around (base slot e f k) q = absurd (cc)
   scope_around {h = h} (inner {w = w} s t a b Γ l e f m d g r) q =
       let z : h ≡ s = cc in

@@ -3,7 +3,8 @@ use Rattle.std.specs.Prelude.{◌≡◌, refl, ◌⊎◌, Bool, true, false, Lis
 use Rattle.std.proofs.Math.Path.{sym, ap}
 use Rattle.std.proofs.Common.{◌∙◌, inl, inr, drop_at, length-drop, drop_of_length-le, take-append-drop}
 use Rattle.std.proofs.Math.Bool.{cond}
-use Rattle.std.specs.Prelude.{None, Some}
+use Rattle.std.specs.Prelude.{None, Some, unwrap_or}
+use Rattle.std.specs.Prelude as Code
 use Rattle.std.proofs.Math.Option.{Option, none, some}
 use Prim.Native.Nat.{ℕ, suc, ◌+◌, ◌*◌, ◌-◌, ◌≤◌, ◌<◌}
 use native.Mathlib.Omega.{arith}
@@ -106,11 +107,11 @@ module _ (s : List ℕ) {at owed : ℕ} (w : Owing s at owed) where
     owes : owed ≡ suc (owed - 1)
     owes = omega arith
 
-    len_past : length s ≤ at → None ≡ type_len s
+    pub len_past : length s ≤ at → None ≡ type_len s
     unfolding behind read_types
     len_past h = len_none (rw (drop_of_length-le s h, owes))
 
-    len_long : at < length s → longest_type ≤ at → None ≡ type_len s
+    pub len_long : at < length s → longest_type ≤ at → None ≡ type_len s
     unfolding behind read_types
     len_long h f = let z : longest_type - at ≡ 0 = omega arith in len_none (rw (rest_begins s at h, z, owes))
 
@@ -402,6 +403,14 @@ len_inside s {n} e = go (behind (read_types s longest_type 1)) e
     go : (o : Option ℕ) → up_to (length s) o ≡ Some n → n ≤ length s
     go none e = apart (cc)
     go (some m) e = let q : length s - m ≡ n = cc in omega arith
+
+-- where the first of two parts ends
+pub middle_inside : (l : List ℕ) {n : ℕ} → n ≡ unwrap_or (type_len (take (length l - 1) (drop 1 l))) 0 → 0 < length l → n + 1 ≤ length l
+middle_inside l {n} e h = go (type_len (take (length l - 1) (drop 1 l))) refl e
+  where
+    go : (o : Code.Option ℕ) → type_len (take (length l - 1) (drop 1 l)) ≡ o → n ≡ unwrap_or o 0 → n + 1 ≤ length l
+    go None f e = omega (arith, e, h)
+    go (Some m) f e = omega (arith, e, len_inside (drop 1 l) (rw (take_rest l 1) at f), length-drop 1 l)
 
 -- the parts of the type u
 module _ (l : List ℕ) (u a b : Ty) (e : l ≡ bytes_of u) (d : added u ≡ two a b) where

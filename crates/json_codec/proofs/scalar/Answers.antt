@@ -14,7 +14,7 @@ pub returns-in_err-end-in-102 : goal.returns-in_err-end-in-102
 unfolding alse
 returns-in_err-end-in-102 c l =
     rw (passed_on c.from_residual.result c.from_residual.ensures.1)
-    (no_false c.requires l c.args.put c.in-102.is c.spell.ensures c.in_err-end-in-102.was)
+    (no_false c.requires l c.args.put c.in-102.is c.spell.ensures c.in_err-end-in-102.was refl)
 
 pub returns-in_ok-end-in-102 : goal.returns-in_ok-end-in-102
 unfolding alse
@@ -25,7 +25,7 @@ pub returns-in_err-end-in-116 : goal.returns-in_err-end-in-116
 unfolding rue
 returns-in_err-end-in-116 c l =
     rw (passed_on c.from_residual-in_err-end-in-116.result c.from_residual-in_err-end-in-116.ensures.1)
-    (no_true c.requires l c.args.put c.in-116.is c.spell-in-116.ensures c.in_err-end-in-116.was)
+    (no_true c.requires l c.args.put c.in-116.is c.spell-in-116.ensures c.in_err-end-in-116.was refl)
 
 pub returns-in_ok-end-in-116 : goal.returns-in_ok-end-in-116
 unfolding rue
