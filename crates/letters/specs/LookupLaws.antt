@@ -9,7 +9,7 @@ use Rattle.report.proofs.TextLaws.{Below, none, each, hex_length, numbers_length
 use Rattle.starts.specs.declared.Starts.{Starts}
 use Rattle.value.specs.Result.{Result, ok, refusal}
 use Rattle.starts.specs.declared.Place.{Place}
-use Rattle.starts.specs.Starts.{load_of, numbers, starts_in as loaded_in, proper, stands_at, find_of, part_of}
+use Rattle.starts.specs.Starts.{load_of, numbers, starts_in as loaded_in, no_starts, proper, stands_at, find_of, part_of}
 use Rattle.starts.proofs.Lookup.{length-firsts, proper_is}
 use Rattle.starts.proofs.StartsLaws.{load_few}
 use Rattle.inputs.specs.Numbers.{input_limit}
@@ -29,11 +29,10 @@ below_more : {m n : ℕ} {l : List ℕ} → m ≤ n → Below m l → Below n l
 below_more h none = none
 below_more h (each {a} p r) = each {a = a} (omega arith) (below_more h r)
 
--- the starts of a plan of at most 8,192 bytes: at most 16 of 4 digits, each behind a space
-pub starts-length : (sheet plan : List ℕ) → length plan ≤ input_limit → {s : Starts} → load_of sheet plan ≡ ok s
-    → length (words (map decimal_of (numbers s))) ≤ 80
+-- the starts of a plan of at most 8,192 bytes that loads: at most 16 of 4 digits, each behind a space
+plan_starts : (sheet plan : List ℕ) → length plan ≤ input_limit → {s : Starts} → load_of sheet plan ≡ ok s → length (words (map decimal_of (numbers s))) ≤ 80
 unfolding loaded_in
-starts-length sheet plan h {s} e =
+plan_starts sheet plan h {s} e =
     let m = numbers_length 3 (below_more {m = length plan} (omega arith) (go (load_small sheet plan) e)) in
     let f : s.count ≤ 16 = rw e at (load_few sheet plan) in
     omega (arith, m, length-firsts s.count s.at, f)
@@ -42,12 +41,21 @@ starts-length sheet plan h {s} e =
     go (below {s = q} b) e = let z : q ≡ s = cc in rw z at b
     go (byte c) e = absurd (cc)
 
+-- and of any, since a refusal has none
+pub starts-length : (sheet plan : List ℕ) → length plan ≤ input_limit → length (words (map decimal_of (numbers (loaded_in (load_of sheet plan))))) ≤ 80
+unfolding loaded_in no_starts words
+starts-length sheet plan h = go (load_of sheet plan) refl
+  where
+    go : (r : Result Starts) → load_of sheet plan ≡ r → length (words (map decimal_of (numbers (loaded_in r)))) ≤ 80
+    go (ok s) e = plan_starts sheet plan h e
+    go (refusal c) e = omega arith
+
 fits_loaded : (sheet plan : List ℕ) → length plan ≤ input_limit → length (loaded_line (load_of sheet plan)) ≤ line_limit
 unfolding loaded_line
 fits_loaded sheet plan h = go (load_of sheet plan) refl (load_small sheet plan)
   where
     go : (r : Result Starts) → load_of sheet plan ≡ r → LoadSmall (length plan) r → length (loaded_line r) ≤ line_limit
-    go (ok s) e y = rw ok_length (omega (arith, starts-length sheet plan h e))
+    go (ok s) e y = rw ok_length (omega (arith, plan_starts sheet plan h e))
     go (refusal c) e (byte l) = fits_refusal c l
 
 pub fits_load : (bs : List ℕ) → length bs ≤ input_limit → length (load_line bs) ≤ line_limit

@@ -1,5 +1,5 @@
 -- The refusals by their numbers.
-use Rattle.std.specs.Prelude.{◌≡◌, ℕ, Result, MatchResult}
+use Rattle.std.specs.Prelude.{◌≡◌, ℕ, Option, Result, MatchOption, MatchResult}
 use Rattle.refusal.specs.declared.Refusal.{Refusal}
 use Rattle.refusal.specs.declared.NoRefusal.{NoRefusal}
 use Rattle.refusal.specs.declared.Refusal.TheVariants.{
@@ -99,6 +99,10 @@ number_of TextName = 91
 number_of TextTaken = 92
 number_of TextNumber = 93
 number_of TextFull = 94
+
+-- the refusal that has a number, or none has it
+abbrev pub Known : ℕ → Option Refusal → Type 0
+Known n r = MatchOption r ((a : Refusal) → number_of a ≡ n → ⊥) (λ a. number_of a ≡ n)
 
 -- a number read: the refusal that has it, or that no refusal has it
 abbrev pub Decodes : ℕ → Result Refusal NoRefusal → Type 0

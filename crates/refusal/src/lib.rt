@@ -1,8 +1,8 @@
 //! The refusals of document 01's table and of the tools: what a call answers that gives nothing, each with its number (tables/refusals.txt).
 #![tactic(auto)]
 
-ghost use Rattle.std.specs.Prelude.{◌≡◌};
-ghost use Rattle.refusal.specs.Refusal.{number_of, Decodes};
+ghost use Rattle.std.specs.Prelude.{◌≡◌, ◌≤◌, ◌<◌};
+ghost use Rattle.refusal.specs.Refusal.{number_of, Known, Decodes};
 
 /// Why a call gave nothing. The number of a refusal is that of the papers' tables.
 #[derive(Clone, Copy, Debug, PartialEq, Eq)]
@@ -102,7 +102,7 @@ pub enum Refusal {
 }
 
 impl Refusal {
-    /// Its number in the papers' tables, 1 to 85.
+    /// Its number in the papers' tables, 1 to 94.
     pub fn number(self) -> u8
         ensures { result ≡ number_of self }
     {
@@ -128,54 +128,80 @@ impl TryFrom<u8> for Refusal {
     ghost try_from_gives = { Decodes };
 
     fn try_from(number: u8) -> Result<Self, NoRefusal> {
-        match number {
-            1 => Ok(Refusal::OutputSmall),
-            2 => Ok(Refusal::ScratchSmall),
-            3 => Ok(Refusal::AllowanceRange),
-            10 => Ok(Refusal::SheetKind),
-            11 => Ok(Refusal::SheetCut),
-            12 => Ok(Refusal::SheetFull),
-            13 => Ok(Refusal::SheetRange),
-            14 => Ok(Refusal::SheetEmpty),
-            20 => Ok(Refusal::PlanMalformed),
-            21 => Ok(Refusal::PlanLong),
-            22 => Ok(Refusal::PlanCount),
-            23 => Ok(Refusal::Variable),
-            24 => Ok(Refusal::Starts),
-            30 => Ok(Refusal::ViewMalformed),
-            31 => Ok(Refusal::ViewLong),
-            32 => Ok(Refusal::ViewCount),
-            40 => Ok(Refusal::Depth),
-            41 => Ok(Refusal::Spent),
-            42 => Ok(Refusal::Scope),
-            43 => Ok(Refusal::ValueKind),
-            44 => Ok(Refusal::ValueLong),
-            45 => Ok(Refusal::Sum),
-            46 => Ok(Refusal::Test),
-            50 => Ok(Refusal::Constant),
-            51 => Ok(Refusal::ViewKind),
-            52 => Ok(Refusal::ViewBelow),
-            53 => Ok(Refusal::NoBranch),
-            54 => Ok(Refusal::Clash),
-            60 => Ok(Refusal::JobMalformed),
-            61 => Ok(Refusal::JobLong),
-            70 => Ok(Refusal::JsonMalformed),
-            71 => Ok(Refusal::JsonDepth),
-            72 => Ok(Refusal::JsonLong),
-            80 => Ok(Refusal::TypesMalformed),
-            81 => Ok(Refusal::NodeTwice),
-            82 => Ok(Refusal::NodeType),
-            83 => Ok(Refusal::SheetsDiffer),
-            84 => Ok(Refusal::JoinFull),
-            85 => Ok(Refusal::NewPlan),
-            87 => Ok(Refusal::OtherKind),
-            88 => Ok(Refusal::GrowthLarge),
-            90 => Ok(Refusal::TextToken),
-            91 => Ok(Refusal::TextName),
-            92 => Ok(Refusal::TextTaken),
-            93 => Ok(Refusal::TextNumber),
-            94 => Ok(Refusal::TextFull),
-            _ => Err(NoRefusal(number)),
+        let known = if number < 50 {
+            below_50(number)
+        } else {
+            from_50(number)
+        };
+        match known {
+            Some(refusal) => Ok(refusal),
+            None => Err(NoRefusal(number)),
         }
+    }
+}
+
+// The refusal that has this number, of those under 50.
+fn below_50(number: u8) -> Option<Refusal>
+    requires { number < 50 }
+    ensures { Known number result }
+{
+    match number {
+        1 => Some(Refusal::OutputSmall),
+        2 => Some(Refusal::ScratchSmall),
+        3 => Some(Refusal::AllowanceRange),
+        10 => Some(Refusal::SheetKind),
+        11 => Some(Refusal::SheetCut),
+        12 => Some(Refusal::SheetFull),
+        13 => Some(Refusal::SheetRange),
+        14 => Some(Refusal::SheetEmpty),
+        20 => Some(Refusal::PlanMalformed),
+        21 => Some(Refusal::PlanLong),
+        22 => Some(Refusal::PlanCount),
+        23 => Some(Refusal::Variable),
+        24 => Some(Refusal::Starts),
+        30 => Some(Refusal::ViewMalformed),
+        31 => Some(Refusal::ViewLong),
+        32 => Some(Refusal::ViewCount),
+        40 => Some(Refusal::Depth),
+        41 => Some(Refusal::Spent),
+        42 => Some(Refusal::Scope),
+        43 => Some(Refusal::ValueKind),
+        44 => Some(Refusal::ValueLong),
+        45 => Some(Refusal::Sum),
+        46 => Some(Refusal::Test),
+        _ => None,
+    }
+}
+
+// The refusal that has this number, of the others.
+fn from_50(number: u8) -> Option<Refusal>
+    requires { 50 ≤ number }
+    ensures { Known number result }
+{
+    match number {
+        50 => Some(Refusal::Constant),
+        51 => Some(Refusal::ViewKind),
+        52 => Some(Refusal::ViewBelow),
+        53 => Some(Refusal::NoBranch),
+        54 => Some(Refusal::Clash),
+        60 => Some(Refusal::JobMalformed),
+        61 => Some(Refusal::JobLong),
+        70 => Some(Refusal::JsonMalformed),
+        71 => Some(Refusal::JsonDepth),
+        72 => Some(Refusal::JsonLong),
+        80 => Some(Refusal::TypesMalformed),
+        81 => Some(Refusal::NodeTwice),
+        82 => Some(Refusal::NodeType),
+        83 => Some(Refusal::SheetsDiffer),
+        84 => Some(Refusal::JoinFull),
+        85 => Some(Refusal::NewPlan),
+        87 => Some(Refusal::OtherKind),
+        88 => Some(Refusal::GrowthLarge),
+        90 => Some(Refusal::TextToken),
+        91 => Some(Refusal::TextName),
+        92 => Some(Refusal::TextTaken),
+        93 => Some(Refusal::TextNumber),
+        94 => Some(Refusal::TextFull),
+        _ => None,
     }
 }

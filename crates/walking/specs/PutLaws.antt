@@ -12,9 +12,7 @@ use Rattle.calls.specs.Small.{Small, small_put}
 use Rattle.report.specs.Text.{words, hex_of, decimal_of, refusal_line, ok_line}
 use Rattle.report.proofs.TextLaws.{hex_length, decimal_length, ok_length}
 use Rattle.report.specs.Writing.{Wrote, wrote_text}
-use Rattle.value.specs.Result.{Result, ok, refusal as refuses}
 use Rattle.starts.specs.declared.Starts.{Starts}
-use Rattle.starts.specs.Starts.{load_of, numbers, starts_in, no_starts}
 use Rattle.inputs.specs.Numbers.{input_limit}
 use Rattle.words.specs.Numbers.{line_limit}
 use Rattle.inputs.specs.declared.fields.Fields.{Fields}
@@ -27,17 +25,11 @@ use Rattle.walking.specs.Endings.{Ending, made, says, besides, put_line, puts, o
 
 -- HOW LONG IT IS
 
-loaded-length : (sheet plan : List ℕ) → length plan ≤ input_limit → (r : Result Starts) → load_of sheet plan ≡ r
-    → length (words (map decimal_of (numbers (starts_in r)))) ≤ 80
-unfolding starts_in no_starts words
-loaded-length sheet plan h (ok s) e = starts-length sheet plan h e
-loaded-length sheet plan h (refuses c) e = omega arith
-
 -- what stands behind the new plan: its starts, or four digits
 besides-length : (bits : Bool) (sheet new : List ℕ) (n written : ℕ) → length new ≤ input_limit
     → length (words (besides bits (new_starts sheet (success new n)) written)) ≤ 80
 unfolding besides bits_word new_starts words
-besides-length false sheet new n written h = loaded-length sheet new h _ refl
+besides-length false sheet new n written h = starts-length sheet new h
 besides-length true sheet new n written h = simp (length-append, hex_length) (omega arith)
 
 fits_put : (bits : Bool) (sheet : List ℕ) (written : ℕ) (a : Answer) → Small (reply a) → length (put_line (besides bits (new_starts sheet a) written) a) ≤
