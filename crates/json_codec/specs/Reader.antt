@@ -187,6 +187,18 @@ module _ {s : List ℕ} {at i c : ℕ} (h : at ≤ length s) (b : 0x20 < c) (p :
   unfolding take found
   token_there l e = passed (on_take before l c e (black c b) (λ k next. rw (eq-eqb c c refl)))
 
+-- one byte, with none before it
+module _ {s : List ℕ} {at : ℕ} (c : ℕ) (h : at ≤ length s) where
+  pub exact_ended : length s ≤ at → Passes (exactly c) s at (Err JsonMalformed)
+  unfolding ends
+  exact_ended l = not_passed (off_end (on_first (exactly c) s at h) l (λ k. refl))
+
+  pub exact_other : at < length s → (get_or s at 0 ≡ c → ⊥) → Passes (exactly c) s at (Err JsonMalformed)
+  exact_other l e = not_passed (off_byte (on_first (exactly c) s at h) l e)
+
+  pub exact_there : at < length s → get_or s at 0 ≡ c → Passes (exactly c) s at (Ok (at + 1))
+  exact_there l e = passed (on_byte (on_first (exactly c) s at h) l e)
+
 -- what another function passes
 module _ {K : Type 0} {w : K → Awaits} {s : List ℕ} {at i : ℕ} {r : Outcome ℕ Refusal} {x : Awaits → Awaits} (v : K → Awaits) (o : On w s at i (λ k. x (v k)))
     (p : Passes x s i r) where
@@ -245,33 +257,44 @@ module _ (cs : List ℕ) {s : List ℕ} {at : ℕ} (h : at ≤ length s) {r : Bo
 
 -- A MEMBER'S NAME
 module _ (letter : ℕ) {s : List ℕ} {at : ℕ} {r : Outcome ℕ Refusal} (h : at ≤ length s) (p : Passes (token 0x22) s at r) where
-  opening : On (name letter) s at at (λ k. token 0x22 (word (letter ∷ 0x22 ∷ []) (token 0x3A k)))
-  unfolding name
+  opening : On (name letter) s at at (λ k. token 0x22 (exactly letter (exactly 0x22 (token 0x3A k))))
+  unfolding name word
   opening = on_first (name letter) s at h
 
   pub name_none : {c : Refusal} → r ≡ Err c → Passes (name letter) s at (Err c)
-  name_none e = refused_there _ (off_passed (λ k. word (letter ∷ 0x22 ∷ []) (token 0x3A k)) opening p e)
+  name_none e = refused_there _ (off_passed (λ k. exactly letter (exactly 0x22 (token 0x3A k))) opening p e)
 
   module _ {i : ℕ} (e : r ≡ Ok i) where
-    opened : On (name letter) s at i (λ k. word (letter ∷ 0x22 ∷ []) (token 0x3A k))
-    opened = on_passed (λ k. word (letter ∷ 0x22 ∷ []) (token 0x3A k)) opening p e
+    opened : On (name letter) s at i (λ k. exactly letter (exactly 0x22 (token 0x3A k)))
+    opened = on_passed (λ k. exactly letter (exactly 0x22 (token 0x3A k))) opening p e
 
     pub name_inside : i ≤ length s
     name_inside = opened.inside
 
-    module _ {u : Outcome ℕ Refusal} (q : Passes (word (letter ∷ 0x22 ∷ [])) s i u) where
+    module _ {u : Outcome ℕ Refusal} (q : Passes (exactly letter) s i u) where
       pub name_other : {c : Refusal} → u ≡ Err c → Passes (name letter) s at (Err c)
-      name_other f = refused_there _ (off_passed (λ k. token 0x3A k) opened q f)
+      name_other f = refused_there _ (off_passed (λ k. exactly 0x22 (token 0x3A k)) opened q f)
 
       module _ {j : ℕ} (f : u ≡ Ok j) where
-        closed : On (name letter) s at j (λ k. token 0x3A k)
-        closed = on_passed (λ k. token 0x3A k) opened q f
+        named : On (name letter) s at j (λ k. exactly 0x22 (token 0x3A k))
+        named = on_passed (λ k. exactly 0x22 (token 0x3A k)) opened q f
 
-        pub name_closed : j ≤ length s
-        name_closed = closed.inside
+        pub name_named : j ≤ length s
+        name_named = named.inside
 
-        pub name_passed : {t : Outcome ℕ Refusal} → Passes (token 0x3A) s j t → Passes (name letter) s at t
-        name_passed y = record { none = λ e. off_passed (λ k. k) closed y e; some = λ e. on_passed (λ k. k) closed y e }
+        module _ {v : Outcome ℕ Refusal} (x : Passes (exactly 0x22) s j v) where
+          pub name_open : {c : Refusal} → v ≡ Err c → Passes (name letter) s at (Err c)
+          name_open g = refused_there _ (off_passed (λ k. token 0x3A k) named x g)
+
+          module _ {l : ℕ} (g : v ≡ Ok l) where
+            closed : On (name letter) s at l (λ k. token 0x3A k)
+            closed = on_passed (λ k. token 0x3A k) named x g
+
+            pub name_closed : l ≤ length s
+            name_closed = closed.inside
+
+            pub name_passed : {t : Outcome ℕ Refusal} → Passes (token 0x3A) s l t → Passes (name letter) s at t
+            name_passed y = record { none = λ e. off_passed (λ k. k) closed y e; some = λ e. on_passed (λ k. k) closed y e }
 
 -- A THING WAS READ from a place on, and its bytes were written into the buffer b at place i: the answer has the places behind both; or its refusal
 pub data Gives {A : Type 0} (w : (A → Awaits) → Awaits) (bytes : A → List ℕ) (s : List ℕ) (at i : ℕ) (b b' : List ℕ) : Answer → Type 0 where

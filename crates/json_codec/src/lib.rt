@@ -3,7 +3,7 @@
 
 ghost use Rattle.std.specs.Prelude.{◌≡◌, ℕ, ◌≤◌, ◌<◌, length, not, Ok};
 ghost use Rattle.std.specs.List.{position};
-ghost use Rattle.notation.specs.Grammar.{largest_number, white, token, name, word, numeral, digits, value, members, object};
+ghost use Rattle.notation.specs.Grammar.{largest_number, white, token, exactly, name, word, numeral, digits, value, members, object};
 ghost use Rattle.value.specs.Value.{encode, encodes};
 ghost use Rattle.json_codec.specs.Writer.{Holds, HoldsScalar, HoldsList, HoldsTwo, Writes, WritesList, WritesTwo};
 ghost use Rattle.report.specs.Writing.{Wrote};
@@ -34,12 +34,12 @@ struct Step {
 
 // READING
 
-// Whether a byte is the RFC's white space.
+// Whether a byte is the RFC's white space. Most bytes are above all four, which one comparison tells.
 #[tactic(auto, unfolding(notation::specs::Grammar::white))]
 fn is_white(c: u8) -> bool
     ensures { result ≡ white c }
 {
-    matches!(c, b' ' | b'\n' | b'\r' | b'\t')
+    c <= b' ' && matches!(c, b' ' | b'\n' | b'\r' | b'\t')
 }
 
 // The place of the first byte that is no white space.
@@ -50,7 +50,7 @@ fn first_black(s: &[u8]) -> Option<usize>
 }
 
 // The place behind the white space at `at`.
-fn skip(s: &[u8], at: usize) -> usize
+fn past_white(s: &[u8], at: usize) -> usize
     requires { at ≤ length s.now }
     ensures { Skips s.now at result }
 {
@@ -60,7 +60,21 @@ fn skip(s: &[u8], at: usize) -> usize
     }
 }
 
-// The place behind a byte that is no white space and may have white space before it.
+// The same, with no call where no white space stands at `at`, as before most tokens.
+#[inline(always)]
+fn skip(s: &[u8], at: usize) -> usize
+    requires { at ≤ length s.now }
+    ensures { Skips s.now at result }
+{
+    if at < s.len() && !is_white(s[at]) {
+        return at;
+    }
+    past_white(s, at)
+}
+
+// The place behind a byte that is no white space and may have white space before it. It and `label` are inlined into the reader of an object, so that
+// no `Result` of theirs stands in memory (docs/PERFORMANCE.md).
+#[inline(always)]
 fn pass(s: &[u8], at: usize, c: u8) -> Result<usize, Refusal>
     requires { (at ≤ length s.now) × (0x20 < c) }
     ensures { Passes (token c) s.now at result }
@@ -86,24 +100,42 @@ fn spell(s: &[u8], at: usize, bytes: &[u8]) -> Result<usize, Refusal>
     Err(Refusal::JsonMalformed)
 }
 
-// The place behind a member's name, of one letter, and its colon.
+// The place behind this byte.
+fn exact(s: &[u8], at: usize, c: u8) -> Result<usize, Refusal>
+    requires { at ≤ length s.now }
+    ensures { Passes (exactly c) s.now at result }
+{
+    if s.len() <= at {
+        return Err(Refusal::JsonMalformed);
+    }
+    if s[at] != c {
+        return Err(Refusal::JsonMalformed);
+    }
+    Ok(at + 1)
+}
+
+// The place behind a member's name, of one letter, and its colon. The two bytes are told one by one, since `spell` is a call.
+#[inline(always)]
 fn label(s: &[u8], at: usize, letter: u8) -> Result<usize, Refusal>
     requires { at ≤ length s.now }
     ensures { Passes (name letter) s.now at result }
 {
     let open = pass(s, at, b'"')?;
-    let close = spell(s, open, &[letter, b'"'])?;
+    let named = exact(s, open, letter)?;
+    let close = exact(s, named, b'"')?;
     pass(s, close, b':')
 }
 
-// The bytes of a number: of kind 04 up to 65,535, of kind 06 above that.
+// The bytes of a number: of kind 04 up to 65,535, of kind 06 above that. Those of a small number go one by one, since `bytes` calls the host's memcpy.
 fn store(n: u64, out: &mut [u8], put: usize) -> usize
     requires { n ≤ largest_number }
     ensures { Wrote (encode (numeral n)) put out.old out.new result }
 {
     if n < 65536 {
-        let end = byte(out, put, 4);
-        return bytes(out, end, &(n as u16).to_be_bytes());
+        let [high, low] = (n as u16).to_be_bytes();
+        let kind = byte(out, put, 4);
+        let first = byte(out, kind, high);
+        return byte(out, first, low);
     }
     let end = byte(out, put, 6);
     bytes(out, end, &(n as u32).to_be_bytes())

@@ -64,15 +64,24 @@ pub fn hex(text: &mut [u8], at: usize, bytes: &[u8]) -> usize
     end
 }
 
-/// A number in decimal.
+/// A number in decimal: its digits are set from the last to the first, and then written.
 pub fn decimal(text: &mut [u8], at: usize, n: usize) -> usize
     ensures { Wrote (decimal_of n) at text.old text.new result }
 {
     if n < 10 {
         return byte(text, at, digit(n as u8));
     }
-    let end = decimal(text, at, n / 10);
-    byte(text, end, digit((n % 10) as u8))
+    let mut digits = [0u8; 20];
+    let mut m = n;
+    let mut i = 19;
+    // No `for`: what is left of the number says whether a digit stands before this one.
+    while 9 < m {
+        digits[i] = digit((m % 10) as u8);
+        m /= 10;
+        i -= 1;
+    }
+    digits[i] = digit(m as u8);
+    bytes(text, at, &digits[i..])
 }
 
 /// A word of a line: a space, and a number in decimal.

@@ -1,7 +1,7 @@
--- `skip` meets its contract: the first byte that is no white space, or the end. Assumes nothing.
+-- `past_white` meets its contract: the first byte that is no white space, or the end. Assumes nothing.
 use Rattle.std.proofs.Common.{sym, ◌∙◌}
 use Rattle.json_codec.specs.Reader.{skips_to, skips_all}
-use Rattle.json_codec.proofs.skip.Goals as goal
+use Rattle.json_codec.proofs.past_white.Goals as goal
 
 pub returns-in-Some : goal.returns-in-Some
 returns-in-Some c = skips_to c.requires (sym c.first_black.ensures ∙ c.in-Some.is)
