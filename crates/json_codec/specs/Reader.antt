@@ -73,6 +73,12 @@ module _ {s : List ℕ} {at i : ℕ} (k : Skipped s at i) where
   pub at_black : (i < length s → white (get_or s i 0) ≡ false) → Skips s at i
   at_black e = record { later = k.later; inside = k.inside; goes = k.goes; black = e }
 
+-- one byte of it, and what stands behind that
+pub skips_on : {s : List ℕ} {at r : ℕ} → at < length s → white (get_or s at 0) ≡ true → Skips s (at + 1) r → Skips s at r
+skips_on {s} {at} h e p =
+    let k = one_more (not_yet s at (omega arith)) h e in
+    record { later = omega (arith, p.later); inside = p.inside; goes = λ w q. k.goes w q ∙ p.goes w q; black = p.black }
+
 -- the bytes before the first that is none
 pub skipped : (s : List ℕ) (at n : ℕ) → at + n ≤ length s → ((k : ℕ) → k < n → white (get_or s (at + k) 0) ≡ true) → Skipped s at (at + n)
 skipped s at zero h w = let e : at + 0 ≡ at = omega arith in rw e (not_yet s at (omega arith))

@@ -60,16 +60,19 @@ fn past_white(s: &[u8], at: usize) -> usize
     }
 }
 
-// The same, with no call where no white space stands at `at`, as before most tokens.
+// The same. The first byte is judged without a call, since before most tokens stands no white space.
 #[inline(always)]
 fn skip(s: &[u8], at: usize) -> usize
     requires { at ≤ length s.now }
     ensures { Skips s.now at result }
 {
-    if at < s.len() && !is_white(s[at]) {
+    if s.len() <= at {
         return at;
     }
-    past_white(s, at)
+    if !is_white(s[at]) {
+        return at;
+    }
+    past_white(s, at + 1)
 }
 
 // The place behind a byte that is no white space and may have white space before it. It and `label` are inlined into the reader of an object, so that
