@@ -60,7 +60,8 @@ fn ends_word(text: &[u8], at: usize) -> bool
     text.len() <= at || !goes_on(text[at], Tail::Letters)
 }
 
-/// Whether the name at a place is the word of a token.
+/// Whether the name at a place is the word of a token. It is inlined into `lookup`, so that most names are told apart with no call.
+#[inline(always)]
 #[tactic(auto, using(crate::specs::Names::name_sent_same))]
 pub fn is_same(text: &[u8], place: usize, t: Lexeme) -> bool
     requires { Shape text.now t × (t.kind ≡ Word) }
@@ -69,7 +70,7 @@ pub fn is_same(text: &[u8], place: usize, t: Lexeme) -> bool
     if text.len() <= place {
         return is_word(text, t, b"sent");
     }
-    // most names differ in the first byte, which is told without a call
+    // most names differ in the first byte
     if text[place] != text[t.at] {
         return false;
     }
